@@ -1,0 +1,4 @@
+pub mod Tab
+pub mod All
+pub mod Grid
+pub mod Sum

@@ -1,0 +1,56 @@
+-- Sums over places: of a plane's rows and columns, in any order. Assumes nothing.
+use mathlib.Core.Path.{_≡_, refl, sym, ap, ap₂, _∙_}
+use Prim.Native.Nat.{ℕ, zero, suc, _+_, _-_, _*_, _≤_, _<_}
+use native.Mathlib.Nat.{le-refl, add-zero, add-suc, suc-mul, add-le-add, zero-add, zero-mul}
+use native.Mathlib.Omega.{arith}
+use Rattle.lists.specs.Sum.{sum}
+
+pub sum-ext : (n : ℕ) (f g : ℕ → ℕ) → ((k : ℕ) → k < n → f k ≡ g k) → sum n f ≡ sum n g
+unfolding sum
+sum-ext zero f g h = refl
+sum-ext (suc n) f g h = ap₂ (λ (x y : ℕ). x + y) (h n (le-refl (suc n))) (sum-ext n f g (λ k l. h k (omega arith)))
+
+pub sum-le : (n : ℕ) (f g : ℕ → ℕ) → ((k : ℕ) → f k ≤ g k) → sum n f ≤ sum n g
+unfolding sum
+sum-le zero f g h = le-refl 0
+sum-le (suc n) f g h = add-le-add (h n) (sum-le n f g h)
+
+pub sum-plus : (n : ℕ) (f g : ℕ → ℕ) → sum n (λ k. f k + g k) ≡ sum n f + sum n g
+unfolding sum
+sum-plus zero f g = refl
+sum-plus (suc n) f g = omega (arith, sum-plus n f g)
+
+pub sum-none : (n : ℕ) → sum n (λ k. 0) ≡ 0
+unfolding sum
+sum-none zero = refl
+sum-none (suc n) = omega (arith, sum-none n)
+
+pub sum-add : (n k : ℕ) (f : ℕ → ℕ) → sum (n + k) f ≡ sum k (λ j. f (n + j)) + sum n f
+unfolding sum
+sum-add n zero f = ap (λ (x : ℕ). sum x f) (add-zero n) ∙ sym (zero-add (sum n f))
+sum-add n (suc k) f = ap (λ (x : ℕ). sum x f) (add-suc n k) ∙ omega (arith, sum-add n k f)
+
+pub sum-rows : (m e : ℕ) (f : ℕ → ℕ) → sum (m * e) f ≡ sum m (λ i. sum e (λ j. f (i * e + j)))
+unfolding sum
+sum-rows zero e f = ap (λ (x : ℕ). sum x f) (zero-mul e)
+sum-rows (suc m) e f =
+    ap (λ (x : ℕ). sum x f) (suc-mul m e) ∙ sum-add (m * e) e f ∙ ap (λ (x : ℕ). sum e (λ j. f (m * e + j)) + x) (sum-rows m e f)
+
+pub sum-swap : (m n : ℕ) (g : ℕ → ℕ → ℕ) → sum m (λ i. sum n (λ j. g i j)) ≡ sum n (λ j. sum m (λ i. g i j))
+unfolding sum
+sum-swap zero n g = sym (sum-none n)
+sum-swap (suc m) n g =
+    ap (λ (x : ℕ). sum n (λ j. g m j) + x) (sum-swap m n g) ∙ sym (sum-plus n (λ j. g m j) (λ j. sum m (λ i. g i j)))
+
+pub sum-first : (n : ℕ) (f : ℕ → ℕ) → sum (suc n) f ≡ f 0 + sum n (λ k. f (suc k))
+unfolding sum
+sum-first zero f = refl
+sum-first (suc n) f = omega (arith, sum-first n f)
+
+pub sum-back : (e : ℕ) (f : ℕ → ℕ) → sum e (λ i. f (e - 1 - i)) ≡ sum e f
+unfolding sum
+sum-back zero f = refl
+sum-back (suc n) f =
+    ap₂ (λ (x y : ℕ). f x + y) (omega arith)
+    (sum-ext n (λ i. f (suc n - 1 - i)) (λ i. f (suc (n - 1 - i))) (λ i l. ap f (omega arith)) ∙ sum-back n (λ i. f (suc i)))
+    ∙ sym (sum-first n f)
