@@ -1,12 +1,30 @@
--- The loop that tests every element: it keeps `all ok l ≡ all ok (drop i l)`. Assumes nothing.
-use mathlib.Core.Path.{_≡_, refl, sym, ap, _∙_}
-use Prim.Native.Nat.{ℕ, suc, _+_, _<_, _≤_}
+-- The loops that test every element. One that ends at the first that fails keeps `all ok l ≡ all ok (drop i l)`; one that
+-- gathers a flag r to the end keeps `all ok l ≡ r && all ok (drop i l)`. Assumes nothing.
+use mathlib.Core.Path.{_≡_, refl, sym, ap, ap₂, _∙_}
+use Prim.Native.Nat.{ℕ, zero, suc, _+_, _<_, _≤_, suc-le-suc}
+use native.Mathlib.Nat.{not-suc-le-zero, le-of-suc-le-suc, zero-lt-suc}
 use native.Mathlib.Numerals.{add-one}
-use mathlib.Core.Bool.{Bool, true, false, not, _&&_, _||_}
+use mathlib.Core.Bool.{Bool, true, false, _&&_, _||_, and-assoc, and-true, true≢false}
 use mathlib.Core.List.{List, [], _∷_}
 use lib.ListN.{length, drop, getD, drop-of-length-le}
 use lib.Seq.{drop-cons}
 use Rattle.lists.specs.Tab.{all}
+
+pub or-left : (a b : Bool) → a || b ≡ false → a ≡ false
+or-left true b e = absurd (true≢false e)
+or-left false b e = refl
+
+pub or-right : (a b : Bool) → a || b ≡ false → b ≡ false
+or-right true b e = absurd (true≢false e)
+or-right false b e = e
+
+pub and-left : (a b : Bool) → a && b ≡ true → a ≡ true
+and-left true b e = refl
+and-left false b e = e
+
+pub and-right : (a b : Bool) → a && b ≡ true → b ≡ true
+and-right true b e = e
+and-right false b e = absurd (true≢false (sym e))
 
 module _ {ℓ} {A : Type ℓ} (ok : A → Bool) (l : List A) (i : ℕ) (d : A) (h : i < length l) where
   all-step : all ok (drop i l) ≡ ok (getD l i d) && all ok (drop (suc i) l)
@@ -24,3 +42,28 @@ module _ {ℓ} {A : Type ℓ} (ok : A → Bool) (l : List A) (i : ℕ) (d : A) (
 pub all-done {ℓ} : {A : Type ℓ} (ok : A → Bool) (l : List A) (i : ℕ) → length l ≤ i → all ok l ≡ all ok (drop i l) → true ≡ all ok l
 unfolding all
 all-done ok l i h inv = sym (inv ∙ rw (drop-of-length-le l h))
+
+-- ---- the flag is gathered to the end
+
+pub gather-more {ℓ} : {A : Type ℓ} (ok : A → Bool) (l : List A) (i : ℕ) (d : A) → i < length l → (r s : Bool) → s ≡ r && ok (getD l i d)
+    → all ok l ≡ r && all ok (drop i l) → all ok l ≡ s && all ok (drop (i + 1) l)
+gather-more ok l i d h r s e inv =
+    inv ∙ ap (λ (x : Bool). r && x) (all-step ok l i d h) ∙ sym (and-assoc r (ok (getD l i d)) (all ok (drop (suc i) l)))
+    ∙ ap (λ (x : Bool). x && all ok (drop (suc i) l)) (sym e) ∙ ap (λ (n : ℕ). s && all ok (drop n l)) (sym (add-one i))
+
+pub gather-done {ℓ} : {A : Type ℓ} (ok : A → Bool) (l : List A) (i : ℕ) → length l ≤ i → (r : Bool) → all ok l ≡ r && all ok (drop i l) → r ≡ all ok l
+unfolding all
+gather-done ok l i h r inv = sym (inv ∙ ap (λ (x : List _). r && all ok x) (drop-of-length-le l h) ∙ and-true r)
+
+-- what holds of all holds of each
+pub all-at {ℓ} : {A : Type ℓ} (ok : A → Bool) (l : List A) (k : ℕ) (d : A) → all ok l ≡ true → k < length l → ok (getD l k d) ≡ true
+unfolding all
+all-at ok [] k d e h = absurd (not-suc-le-zero h)
+all-at ok (v ∷ vs) zero d e h = and-left (ok v) (all ok vs) e
+all-at ok (v ∷ vs) (suc k) d e h = all-at ok vs k d (and-right (ok v) (all ok vs) e) (le-of-suc-le-suc h)
+
+-- and the other way
+pub all-of {ℓ} : {A : Type ℓ} (ok : A → Bool) (l : List A) (d : A) → ((k : ℕ) → k < length l → ok (getD l k d) ≡ true) → all ok l ≡ true
+unfolding all
+all-of ok [] d h = refl
+all-of ok (v ∷ vs) d h = ap₂ _&&_ (h 0 (zero-lt-suc (length vs))) (all-of ok vs d (λ k l. h (suc k) (suc-le-suc l)))

@@ -1,11 +1,12 @@
 -- What a plane that refusal 1 lets through is like. Assumes nothing.
 use mathlib.Core.Path.{_≡_, refl, sym, ap, _∙_}
-use mathlib.Core.Bool.{Bool, true, false, not, _||_, true≢false}
+use mathlib.Core.Bool.{true, false, not, _||_}
 use Prim.Native.Nat.{ℕ, zero, suc, _*_, _<_, _≤_}
 use native.Mathlib.Nat.{mul-le-mul, zero-lt-suc}
 use native.Mathlib.Omega.{arith}
-use borrow.Author.Tests.{eqb-true, eqb-false, ltb-false}
+use borrow.Author.Tests.{eqb-true, eqb-false, ltb-false, not-false}
 use lib.Dec.{ltb, eqb}
+use Rattle.lists.proofs.All.{or-left, or-right}
 use Rattle.refusals.specs.Plane.{badSides, badPlane}
 
 pub record Sides (width height : ℕ) : Type 0 where
@@ -18,14 +19,6 @@ pub record Plane (len width height : ℕ) : Type 0 where
   pub sides : Sides width height
   pub whole : len ≡ width * height
   pub few : len ≤ 16777216
-
-pub or-left : (a b : Bool) → a || b ≡ false → a ≡ false
-or-left true b e = absurd (true≢false e)
-or-left false b e = refl
-
-pub or-right : (a b : Bool) → a || b ≡ false → b ≡ false
-or-right true b e = absurd (true≢false e)
-or-right false b e = e
 
 positive : (n : ℕ) → eqb n 0 ≡ false → 0 < n
 positive zero e = absurd (eqb-false 0 0 e refl)
@@ -42,10 +35,6 @@ good-sides {width} {height} e =
       width-le = ltb-false 4096 width (or-right (eqb width 0) (ltb 4096 width) w);
       height-le = ltb-false 4096 height (or-right (eqb height 0) (ltb 4096 height) h);
     }
-
-not-false : (b : Bool) → not b ≡ false → b ≡ true
-not-false true e = refl
-not-false false e = absurd (true≢false e)
 
 pub few-samples : {width height : ℕ} → Sides width height → width * height ≤ 16777216
 few-samples s = mul-le-mul (s .width-le) (s .height-le)
