@@ -1,0 +1,11 @@
+-- Every row of the table holds: both sides compute to the same numbers. Assumes nothing.
+use mathlib.Core.Path.{_≡_, refl}
+use mathlib.Core.List.{List, [], _∷_, map}
+use Prim.Native.Nat.{ℕ}
+use Rattle.word.specs.Word.{turns}
+use Rattle.muosleap.specs.Codes.{turned, bestTag}
+use Rattle.paper.specs.Rows.{Row, rows}
+
+pub rows-hold : map (λ (r : Row). r .worked) rows ≡ map (λ (r : Row). r .says) rows
+unfolding turns turned bestTag
+rows-hold = refl
