@@ -33,7 +33,7 @@ module _ (threshold : ℕ) (codes : List ℕ) (edge : ℕ) where
   none-left r w = refl
 
   -- no code is near w
-  pub Far : ℕ → Type 0
+  abbrev pub Far : ℕ → Type 0
   Far w = (k : ℕ) → k < length codes → threshold ≤ differing w (getD codes k 0)
 
   -- the code at id is near w, none is nearer, and none before it is as near
@@ -44,7 +44,6 @@ module _ (threshold : ℕ) (codes : List ℕ) (edge : ℕ) where
     pub first : (k : ℕ) → k < id → differing w (getD codes id 0) < differing w (getD codes k 0)
 
   far : (w : ℕ) → threshold ≤ fewest w codes → Far w
-  unfolding Far
   far w h k l = le-trans h (fewest-le w codes k l)
 
   near : (w : ℕ) → threshold ≤ 65 → fewest w codes < threshold → Near w (firstAt w (fewest w codes) codes)

@@ -1,16 +1,20 @@
 -- The number of differing bits: a distance, which a turn keeps. Assumes nothing.
 use mathlib.Core.Path.{_≡_, refl, sym, ap, ap₂, _∙_}
+use mathlib.Core.Logic.{⊎-elim}
+use mathlib.Core.Bool.{Bool, true, false}
 use Prim.Native.Nat.{ℕ, zero, suc, _+_, _-_, _*_, _/_, _%_, _^_, _≤_, _<_}
-use native.Mathlib.Nat.{zero-lt-suc, not-suc-le-zero, le-of-suc-le-suc, mod-eq-of-lt, le-refl, le-add-right}
+use native.Mathlib.Nat.{zero-lt-suc, not-suc-le-zero, le-of-suc-le-suc, mod-eq-of-lt, mul-le-mul, eq-or-lt-of-le}
 use native.Mathlib.Omega.{arith}
+use borrow.Author.Tests.{leb-true, leb-false}
 use lib.Arith.{digits-mod}
+use lib.Dec.{leb}
 use lib.Bits.{bitXor, xor-shr, xor-step, xor-lt, differ}
 use lib.Count.{ones, ones-cat}
 use Rattle.lists.specs.Sum.{sum}
 use Rattle.lists.proofs.Sum.{sum-ext, sum-le, sum-plus, sum-add, sum-none}
 use Rattle.word.specs.Word.{bit, word, source, turn, turns, differingIn, differing}
 use Rattle.word.proofs.Bits.{bit-lt, bit-above, word-lt, word-mod}
-use Rattle.word.proofs.Turn.{bit-turn, sum-turn, turn-lt, turns-lt}
+use Rattle.word.proofs.Turn.{bit-turn, sum-turn, turns-lt, turns-add, turns-four, turns-past-four}
 
 one-bit : (x : ℕ) → x < 2 → ones x ≡ x
 unfolding ones
@@ -121,3 +125,48 @@ pub differing-le : (n a b : ℕ) → differingIn n a b ≤ n
 unfolding differingIn
 differing-le n a b =
     omega (arith, one-each n, sum-le n (λ k. differ (bit a k) (bit b k)) (λ k. 1) (λ k. le-of-suc-le-suc (differ-lt (bit a k) (bit b k) (bit-lt a k) (bit-lt b k))))
+
+-- ---- words of a square with an edge up to 8, in any turns
+
+module _ (e : ℕ) (edge : e ≤ 8) where
+  pub places-le : e * e ≤ 64
+  places-le = mul-le-mul edge edge
+
+  -- all that differs lies in the square
+  pub in-square : (a b : ℕ) → a < 2 ^ (e * e) → b < 2 ^ (e * e) → differing a b ≡ differingIn (e * e) a b
+  in-square a b ha hb = differing-low (e * e) 64 a b places-le ha hb
+
+  pub turned-alike : (q a b : ℕ) → a < 2 ^ (e * e) → b < 2 ^ (e * e) → differing (turns e q a) (turns e q b) ≡ differing a b
+  turned-alike q a b ha hb =
+      in-square (turns e q a) (turns e q b) (turns-lt e q a ha) (turns-lt e q b hb) ∙ turns-differing e q a b ∙ sym (in-square a b ha hb)
+
+  -- a in p turns against b in q turns is a in `by` turns against b
+  pub record Aligned (p q : ℕ) : Type 0 where
+    pub by : ℕ
+    pub by-lt : by < 4
+    pub by-pos : (p ≡ q → ⊥) → 0 < by
+    pub same : (a b : ℕ) → a < 2 ^ (e * e) → b < 2 ^ (e * e) → differing (turns e p a) (turns e q b) ≡ differing (turns e by a) b
+
+  -- both are turned on until b is as it was
+  on : (p q r : ℕ) (a b : ℕ) → q < 4 → a < 2 ^ (e * e) → b < 2 ^ (e * e) → turns e (p + (4 - q)) a ≡ turns e r a → differing (turns e p a) (turns e q b) ≡ differing (turns e r a) b
+  on p q r a b hq ha hb h =
+      let s : q + (4 - q) ≡ 4 = omega arith in
+      sym (turned-alike (4 - q) (turns e p a) (turns e q b) (turns-lt e p a ha) (turns-lt e q b hb))
+      ∙ ap₂ differing (sym (turns-add e p (4 - q) a) ∙ h) (sym (turns-add e q (4 - q) b) ∙ ap (λ (n : ℕ). turns e n b) s ∙ turns-four e b hb)
+
+  pub align : (p q : ℕ) → p < 4 → q < 4 → Aligned p q
+  align p q hp hq = go (leb q p) refl
+    where
+      go : (t : Bool) → leb q p ≡ t → Aligned p q
+      go true t =
+          let l = leb-true q p t in
+          let s : p + (4 - q) ≡ 4 + (p - q) = omega arith in
+          record {
+            by = p - q;
+            by-lt = omega arith;
+            by-pos = λ ne. ⊎-elim (λ z. absurd (ne (sym z))) (λ m. omega arith) (eq-or-lt-of-le l);
+            same = λ a b ha hb. on p q (p - q) a b hq ha hb (ap (λ (n : ℕ). turns e n a) s ∙ turns-past-four e (p - q) a ha);
+          }
+      go false t =
+          let l = leb-false q p t in
+          record { by = p + (4 - q); by-lt = omega arith; by-pos = λ ne. omega arith; same = λ a b ha hb. on p q (p + (4 - q)) a b hq ha hb refl }

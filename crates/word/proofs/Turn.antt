@@ -94,3 +94,11 @@ turns-turn e (suc q) w = turns-turn e q (turn e w)
 -- a row and a column of a square with an edge up to 8 are a place below 64
 pub place-lt : (e i j : ℕ) → e ≤ 8 → i < e → j < e → i * e + j < 64
 place-lt e i j h hi hj = lt-of-lt-of-le (digits-lt hi hj) (le-trans (mul-le-mul-left e h) (omega arith))
+
+-- "four turns are none on the square"
+pub turns-four : (e w : ℕ) → w < 2 ^ (e * e) → turns e 4 w ≡ w
+unfolding turns
+turns-four e w h = turn-four e w h
+
+pub turns-past-four : (e r w : ℕ) → w < 2 ^ (e * e) → turns e (4 + r) w ≡ turns e r w
+turns-past-four e r w h = turns-add e 4 r w ∙ ap (turns e r) (turns-four e w h)

@@ -1,0 +1,5 @@
+pub mod Each
+pub mod Turned
+pub mod Tested
+pub mod Apart
+pub mod Reading
