@@ -1,1 +1,3 @@
 pub mod Codes
+pub mod BitCode
+pub mod Likeness

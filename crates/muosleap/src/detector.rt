@@ -1,11 +1,21 @@
 // Codes, levels and quads: the entries that port the original's detector.rs.
+use levels::Bits;
 use search::Found;
+use tables::Family;
 ghost use mathlib.Core.Path.{_≡_};
+ghost use Rattle.levels.specs.Bits.{paperBits};
 ghost use Rattle.search.specs.Answer.{paperFound};
+ghost use Rattle.muosleap.specs.BitCode.{bitCode};
+ghost use Rattle.muosleap.specs.Likeness.{paperLikeness, checkLikeness};
 ghost use Rattle.muosleap.specs.Codes.{paperTurned, turned, bestTag};
 
 pub enum Turned {
     Word(u64),
+    Refused(u8),
+}
+
+pub enum Likeness {
+    Passed,
     Refused(u8),
 }
 
@@ -28,4 +38,31 @@ pub fn best_tag(bits: u64, hamming_distance: u8, codes: &[u64], edge: u8) -> Fou
         return Found::Refused(6);
     }
     search::best_tag(bits, hamming_distance, codes, edge)
+}
+
+// Whether a table can be read one way only. Refusal 6 for the table, and 7 where its codes are too much alike.
+pub fn check_likeness(family: Family, codes: &[u64]) -> Likeness
+    ensures { λ r. ⌜ paperLikeness r ≡ checkLikeness family (now (codes .entry)) ⌝ }
+{
+    if tables::bad_table(family, codes) {
+        return Likeness::Refused(6);
+    }
+    if likeness::passes(codes, family.edge, family.hamming_distance) {
+        return Likeness::Passed;
+    }
+    Likeness::Refused(7)
+}
+
+// Levels to bits: the word whose highest bit is the first level's, 1 where it is above the middle. Refusal 15 for no levels or
+// more than 64, 11 where greatest minus least is below 50, and 12 for more unsure levels than allowed.
+pub fn bit_code(levels: &[u8], band: u8, allowed: u32) -> Bits
+    ensures { λ r. ⌜ paperBits r ≡ bitCode (now (levels .entry)) band allowed ⌝ }
+{
+    if levels.len() == 0 {
+        return Bits::Refused(15);
+    }
+    if 64 < levels.len() {
+        return Bits::Refused(15);
+    }
+    levels::bit_code(levels, band, allowed)
 }

@@ -1,0 +1,8 @@
+pub mod Loops
+pub mod Cases
+pub mod Places
+pub mod Extremes
+pub mod Reorder
+pub mod Order
+pub mod Shades
+pub mod Quarter

@@ -1,0 +1,76 @@
+-- Levels that keep clear of the middle are read as what they are; levels that lie close together are refusal 11. Assumes nothing.
+use mathlib.Core.Path.{_≡_, refl, sym, ap, ap₂, _∙_}
+use mathlib.Core.Logic.{_⊎_, inl, inr}
+use mathlib.Core.List.{List}
+use Prim.Native.Nat.{ℕ, zero, suc, _+_, _-_, _/_, _≤_, _<_, min, max}
+use native.Mathlib.Nat.{le-of-eq}
+use native.Mathlib.Omega.{arith}
+use borrow.Author.Tests.{lt-ltb, le-ltb}
+use lib.ListN.{length, getD}
+use Rattle.lists.proofs.Sum.{sum-ext, sum-none}
+use Rattle.refusals.specs.Outcome.{accepted, refused}
+use Rattle.word.specs.Word.{word}
+use Rattle.levels.specs.Levels.{leastOf, greatestOf, middleOf, oneIf, above, distance, unsure, unsureOf, codeOf}
+use Rattle.levels.proofs.Extremes.{Level, over-none, range-within, range-is}
+use Rattle.levels.proofs.Cases.{code-flat, code-word}
+use Rattle.levels.proofs.Places.{word-by-levels}
+
+-- a level of the bit b keeps at least gap from the middle: 1 above it, 0 below it
+abbrev pub Clear : ℕ → ℕ → ℕ → ℕ → Type 0
+Clear middle gap b level = ((b ≡ 1) × (middle + gap ≤ level)) ⊎ ((b ≡ 0) × (level + gap ≤ middle))
+
+module _ (middle gap b level : ℕ) where
+  clear-bit : 0 < gap → Clear middle gap b level → above middle level ≡ b
+  clear-bit h (inl c) = ap oneIf (lt-ltb middle level (omega arith)) ∙ sym (c .0)
+  clear-bit h (inr c) = ap oneIf (le-ltb middle level (omega arith)) ∙ sym (c .0)
+
+  clear-sure : (band : ℕ) → band ≤ gap → Clear middle gap b level → unsure middle band level ≡ 0
+  clear-sure band h (inl c) = ap oneIf (le-ltb (distance level middle) band (omega arith))
+  clear-sure band h (inr c) = ap oneIf (le-ltb (distance level middle) band (omega arith))
+
+-- the bits are f's at each place: the word of the bits is read
+pub clear-code : (l : List ℕ) (band allowed gap : ℕ) (f : ℕ → ℕ) → 0 < gap → band ≤ gap → 50 ≤ greatestOf l - leastOf l
+    → ((k : ℕ) → k < length l → Clear (middleOf l) gap (f (length l - 1 - k)) (getD l k 0))
+    → codeOf l band allowed ≡ accepted (word (length l) f)
+unfolding unsureOf
+clear-code l band allowed gap f pos wide contrast clear =
+    let m = middleOf l in
+    let sure : unsureOf m band l ≡ 0 =
+    sum-ext (length l) (λ k. unsure m band (getD l k 0)) (λ k. 0) (λ k h. clear-sure m gap (f (length l - 1 - k)) (getD l k 0) band wide (clear k h)) ∙ sum-none (length l) in
+    code-word l band allowed contrast (omega arith)
+    ∙ ap (λ (x : ℕ). accepted x) (word-by-levels m l f (λ k h. clear-bit m gap (f (length l - 1 - k)) (getD l k 0) pos (clear k h)))
+
+-- a level of the bit b has one of two shades
+abbrev pub Shade : ℕ → ℕ → ℕ → ℕ → Type 0
+Shade light dark b level = ((b ≡ 1) × (level ≡ light)) ⊎ ((b ≡ 0) × (level ≡ dark))
+
+-- two shades at least 50 apart, both of which occur: 1 exactly where it is light
+module _ (l : List ℕ) (band allowed light dark : ℕ) (f : ℕ → ℕ) (near : band ≤ 25) (contrast : dark + 50 ≤ light)
+    (shades : (k : ℕ) → k < length l → Shade light dark (f (length l - 1 - k)) (getD l k 0)) (lit : Level l light) (unlit : Level l dark) where
+  shade-within : (b level : ℕ) → Shade light dark b level → (dark ≤ level) × (level ≤ light)
+  shade-within b level (inl s) = (omega (arith, s .1), omega (arith, s .1))
+  shade-within b level (inr s) = (omega (arith, s .1), omega (arith, s .1))
+
+  shade-clear : (middle b level : ℕ) → middle ≡ (dark + light + 1) / 2 → Shade light dark b level → Clear middle 25 b level
+  shade-clear middle b level e (inl s) = inl (s .0, omega (arith, s .1))
+  shade-clear middle b level e (inr s) = inr (s .0, omega (arith, s .1))
+
+  pub shades-code : codeOf l band allowed ≡ accepted (word (length l) f)
+  shades-code =
+      let range = range-is l dark light (λ k h. shade-within (f (length l - 1 - k)) (getD l k 0) (shades k h)) unlit lit in
+      let middle = ap₂ (λ (x y : ℕ). (x + y + 1) / 2) (range .0) (range .1) in
+      clear-code l band allowed 25 f (omega arith) near (omega (arith, range .0, range .1))
+      (λ k h. shade-clear (middleOf l) (f (length l - 1 - k)) (getD l k 0) middle (shades k h))
+
+-- all levels lie from low to high, which are less than 50 apart
+pub flat-code : (l : List ℕ) (band allowed low high : ℕ) → high < low + 50 → ((k : ℕ) → k < length l → (low ≤ getD l k 0) × (getD l k 0 ≤ high))
+    → codeOf l band allowed ≡ refused 11
+flat-code l band allowed low high near inside = go (length l) refl
+  where
+    go : (n : ℕ) → length l ≡ n → codeOf l band allowed ≡ refused 11
+    go zero e = code-flat l band allowed (omega (arith, over-none min l e, over-none max l e))
+    go (suc n) e = let w = range-within l low high inside (omega arith) in code-flat l band allowed (omega (arith, w .0, w .1))
+
+-- one shade alone
+pub one-shade : (l : List ℕ) (band allowed shade : ℕ) → ((k : ℕ) → k < length l → getD l k 0 ≡ shade) → codeOf l band allowed ≡ refused 11
+one-shade l band allowed shade same = flat-code l band allowed shade shade (omega arith) (λ k h. (le-of-eq (sym (same k h)), le-of-eq (same k h)))
