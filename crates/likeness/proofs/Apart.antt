@@ -12,8 +12,9 @@ use lib.ListN.{length, getD}
 use Rattle.lists.proofs.All.{and-left, and-right}
 use Rattle.word.specs.Word.{turns, differing}
 use Rattle.word.proofs.Differing.{differing-comm}
-use Rattle.likeness.specs.Likeness.{each, ones, mixed, apartInTurns, apartFromItself, passesAt, likeness}
-use Rattle.likeness.proofs.Each.{each-at, each-of}
+use Rattle.lists.specs.Each.{each}
+use Rattle.likeness.specs.Likeness.{ones, mixed, apartInTurns, apartFromItself, passesAt, likeness}
+use Rattle.lists.proofs.Each.{each-at, each-of}
 use Rattle.likeness.proofs.Turned.{in-turns-at, in-turns-of, from-itself-at, from-itself-of}
 
 -- each code has at least t ones and t zeros; two codes in any turns, and one code in two turns, differ in at least 2t − 1 bits

@@ -1,4 +1,3 @@
-pub mod Each
 pub mod Turned
 pub mod Tested
 pub mod Apart

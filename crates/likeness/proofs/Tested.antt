@@ -15,10 +15,11 @@ use Rattle.lists.proofs.Sum.{sum-ext}
 use Rattle.word.specs.Word.{bit, differing, differingIn}
 use Rattle.word.proofs.Differing.{in-square, differing-le}
 use Rattle.tables.proofs.Table.{Codes}
-use Rattle.likeness.specs.Likeness.{each, ones, mixed, apartInTurns, apartFromItself, passesAt}
+use Rattle.lists.specs.Each.{each}
+use Rattle.likeness.specs.Likeness.{ones, mixed, apartInTurns, apartFromItself, passesAt}
 use Rattle.likeness.specs.Turned.{FourTurns, farFrom, farSelf}
 use Rattle.likeness.specs.declared.Turns.{Turns}
-use Rattle.likeness.proofs.Each.{each-ext}
+use Rattle.lists.proofs.Each.{each-ext}
 use Rattle.likeness.proofs.Turned.{far-from-is, far-self-is}
 
 differ-zero : (x : ℕ) → differ x 0 ≡ x

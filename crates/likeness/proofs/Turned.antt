@@ -10,10 +10,11 @@ use Rattle.lists.proofs.All.{and-left, and-right}
 use Rattle.word.specs.Word.{turns, differing}
 use Rattle.word.proofs.Differing.{align, turned-alike, differing-comm}
 use Rattle.word.proofs.Turn.{turns-lt, turns-four, turns-add}
-use Rattle.likeness.specs.Likeness.{each, apart, apartInTurns, apartFromItself}
+use Rattle.lists.specs.Each.{each}
+use Rattle.likeness.specs.Likeness.{apart, apartInTurns, apartFromItself}
 use Rattle.likeness.specs.Turned.{FourTurns, farFrom, farSelf}
 use Rattle.likeness.specs.declared.Turns.{Turns}
-use Rattle.likeness.proofs.Each.{same-test, each-at, each-of}
+use Rattle.lists.proofs.Each.{same-test, each-at, each-of}
 
 -- the four numbers of turns
 by-turn : (P : ℕ → Type 0) → P 0 → P 1 → P 2 → P 3 → (r : ℕ) → r < 4 → P r

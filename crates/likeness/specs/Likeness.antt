@@ -1,17 +1,13 @@
 -- "The likeness check passes when each code has at least t ones and t zeros in its square (t the match threshold), and any two
 -- codes in any turns, or one code in two turns, differ in at least 2t − 1 bits." Assumes nothing.
-use Prim.Native.Nat.{ℕ, zero, suc, _-_, _*_}
-use mathlib.Core.Bool.{Bool, true, _&&_, _||_}
+use Prim.Native.Nat.{ℕ, _-_, _*_}
+use mathlib.Core.Bool.{Bool, _&&_, _||_}
 use mathlib.Core.List.{List}
 use lib.Dec.{leb, eqb}
 use lib.ListN.{length, getD}
+use Rattle.lists.specs.Each.{each}
 use Rattle.lists.specs.Sum.{sum}
 use Rattle.word.specs.Word.{bit, turns, differing, differingIn}
-
--- every number below n passes the test
-unfoldable pub each : ℕ → (ℕ → Bool) → Bool
-each zero ok = true
-each (suc n) ok = ok n && each n ok
 
 -- the ones in the square
 unfoldable pub ones : ℕ → ℕ → ℕ

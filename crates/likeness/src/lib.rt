@@ -4,7 +4,8 @@ ghost use mathlib.Core.Bool.{false};
 ghost use Prim.Native.Nat.{_*_, _^_, _<_, _≤_};
 ghost use lib.ListN.{length, getD};
 ghost use Rattle.tables.specs.Table.{badCodes};
-ghost use Rattle.likeness.specs.Likeness.{each, mixed, passesAt, likeness};
+ghost use Rattle.lists.specs.Each.{each};
+ghost use Rattle.likeness.specs.Likeness.{mixed, passesAt, likeness};
 ghost use Rattle.likeness.specs.Turned.{FourTurns, farFrom, farSelf};
 
 // A code, and the code turned once, twice and three times.

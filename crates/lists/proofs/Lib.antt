@@ -2,3 +2,4 @@ pub mod Tab
 pub mod All
 pub mod Grid
 pub mod Sum
+pub mod Each

@@ -1,2 +1,3 @@
 pub mod Tab
 pub mod Sum
+pub mod Each

@@ -1,12 +1,13 @@
 -- `far` is the test of the codes before j. Assumes nothing.
-use mathlib.Core.Path.{_≡_, refl, sym, ap, ap₂, _∙_}
+use mathlib.Core.Path.{_≡_, sym, ap, _∙_}
 use mathlib.Core.Bool.{Bool, _&&_}
 use mathlib.Core.List.{List}
 use Prim.Native.Nat.{ℕ, suc, _+_, _-_, _≤_, _<_}
-use native.Mathlib.Numerals.{add-one}
 use native.Mathlib.Omega.{arith}
 use lib.ListN.{length, getD}
-use Rattle.likeness.specs.Likeness.{each}
+use Rattle.lists.specs.Each.{each}
+use Rattle.likeness.specs.Likeness.{}
+use Rattle.lists.proofs.Each.{each-none, each-more}
 use Rattle.likeness.specs.Turned.{farFrom}
 use Rattle.likeness.specs.declared.Turns.{Turns}
 use Rattle.likeness.proofs.far_from_earlier.Statement.{statement}
@@ -15,14 +16,6 @@ use Rattle.likeness.proofs.far_from_earlier.Tie as tie
 abbrev far-at : ℕ → Turns → List ℕ → ℕ → Bool
 far-at least t codes j = farFrom least t (getD codes j 0)
 
-one-more : (n : ℕ) (ok : ℕ → Bool) (x r : Bool) → x ≡ ok n → r ≡ each n ok → x && r ≡ each (n + 1) ok
-unfolding each
-one-more n ok x r p q = ap₂ _&&_ p q ∙ ap (λ (k : ℕ). each k ok) (sym (add-one n))
-
-nothing-yet : (ok : ℕ → Bool) → mathlib.Core.Bool.true ≡ each 0 ok
-unfolding each
-nothing-yet ok = refl
-
 abbrev Inv-loop : tie.InvT-loop
 Inv-loop t codes n least far₀ j₀ far j = (j ≤ n) × (far ≡ each j (far-at least t codes))
 
@@ -30,7 +23,7 @@ abbrev μ-loop : tie.MeasureT-loop
 μ-loop t codes n least far₀ j₀ far j = n - j
 
 loop-holds : tie.Need-loop-holds Inv-loop μ-loop
-loop-holds c = let a = c .before .args in (omega arith, nothing-yet (far-at (a .least) (a .t) (a .codes .now)))
+loop-holds c = let a = c .before .args in (omega arith, sym (each-none (far-at (a .least) (a .t) (a .codes .now))))
 
 mul-far-from : tie.Need-mul-far-from Inv-loop μ-loop
 mul-far-from c = omega arith
@@ -51,7 +44,7 @@ loop-again : tie.Need-loop-again Inv-loop μ-loop
 loop-again c =
     let l = c .before .before .before in
     let a = l .before .before .args in
-    (omega arith, one-more (l .loop .j) (far-at (a .least) (a .t) (a .codes .now)) (c .far-from .result) (l .loop .far) (c .far-from .ensures) (l .loop .inv .1))
+    (omega arith, each-more (l .loop .j) (far-at (a .least) (a .t) (a .codes .now)) (c .far-from .result) (l .loop .far) (c .far-from .ensures) (l .loop .inv .1))
 
 returns : tie.Need-returns Inv-loop μ-loop
 returns c =

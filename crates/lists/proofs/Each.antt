@@ -1,12 +1,13 @@
 -- A test of every number below n. Assumes nothing.
-use mathlib.Core.Path.{_≡_, refl, sym, ap, ap₂, _∙_, subst}
+use mathlib.Core.Path.{_≡_, refl, sym, ap, ap₂, _∙_}
 use mathlib.Core.Logic.{_⊎_, inl, inr}
-use mathlib.Core.Bool.{Bool, true, false, _&&_, true≢false}
-use Prim.Native.Nat.{ℕ, zero, suc, _≤_, _<_}
+use mathlib.Core.Bool.{Bool, true, false, _&&_}
+use Prim.Native.Nat.{ℕ, zero, suc, _+_, _<_}
+use native.Mathlib.Numerals.{add-one}
 use native.Mathlib.Nat.{le-refl, not-suc-le-zero, le-of-suc-le-suc, eq-or-lt-of-le}
 use native.Mathlib.Omega.{arith}
 use Rattle.lists.proofs.All.{and-left, and-right}
-use Rattle.likeness.specs.Likeness.{each}
+use Rattle.lists.specs.Each.{each}
 
 -- two tests that pass together
 pub same-test : (a b : Bool) → (a ≡ true → b ≡ true) → (b ≡ true → a ≡ true) → a ≡ b
@@ -40,3 +41,13 @@ each-fails n ok k h e = go (each n ok) refl
     go : (t : Bool) → each n ok ≡ t → t ≡ false
     go true q = sym (each-at n ok q k h) ∙ e
     go false q = refl
+
+-- ---- the loop that tests 0, 1, .., n - 1
+
+pub each-none : (ok : ℕ → Bool) → each 0 ok ≡ true
+unfolding each
+each-none ok = refl
+
+pub each-more : (n : ℕ) (ok : ℕ → Bool) (x r : Bool) → x ≡ ok n → r ≡ each n ok → x && r ≡ each (n + 1) ok
+unfolding each
+each-more n ok x r p q = ap₂ _&&_ p q ∙ ap (λ (k : ℕ). each k ok) (sym (add-one n))
