@@ -1,0 +1,4 @@
+pub mod Rounding
+pub mod Corners
+pub mod Place
+pub mod Bounds

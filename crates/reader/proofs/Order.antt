@@ -1,0 +1,57 @@
+-- The refusals of a reading in their order, and what is left after them. Assumes nothing.
+use mathlib.Core.Path.{_≡_, refl, sym, ap, _∙_}
+use mathlib.Core.Bool.{Bool, true, false, not, cond}
+use mathlib.Core.List.{List}
+use Prim.Native.Nat.{ℕ, _*_}
+use lib.ListN.{length}
+use native.Mathlib.Omega.{arith}
+use Rattle.refusals.specs.Outcome.{Outcome, accepted, refused}
+use Rattle.refusals.specs.Plane.{badFrame}
+use Rattle.refusals.specs.declared.Frame.{Frame}
+use Rattle.refusals.proofs.Plane.{good-plane}
+use Rattle.points.specs.declared.Quad.{Quad}
+use Rattle.tables.specs.Table.{badTable}
+use Rattle.tables.specs.declared.Family.{Family}
+use Rattle.tables.proofs.Table.{good-table}
+use Rattle.places.specs.Corners.{badCorners, cornersOutside}
+use Rattle.places.specs.Place.{axesOf}
+use Rattle.levels.specs.Levels.{codeOf}
+use Rattle.reader.specs.Reading.{samplesInside, levelsOf, Tag, tagOf, reading}
+use Rattle.reader.specs.Sampling.{Readable}
+
+module _ (plane : List ℕ) (frame : Frame) (family : Family) (codes : List ℕ) (quad : Quad) where
+  rest : Outcome Tag
+  rest = tagOf family codes quad (codeOf (levelsOf plane frame family (axesOf quad)) 10 3)
+
+  pub reading-8 : badCorners quad ≡ true → reading plane frame family codes quad ≡ refused 8
+  unfolding reading
+  reading-8 a = simp a
+
+  module _ (good : badCorners quad ≡ false) where
+    pub reading-9 : cornersOutside (frame .width) (frame .height) quad ≡ true → reading plane frame family codes quad ≡ refused 9
+    unfolding reading
+    reading-9 b = simp (good, b)
+
+    module _ (within : cornersOutside (frame .width) (frame .height) quad ≡ false) where
+      pub reading-10 : samplesInside frame family (axesOf quad) ≡ false → reading plane frame family codes quad ≡ refused 10
+      unfolding reading
+      reading-10 c = simp (good, within, c)
+
+      pub reading-on : samplesInside frame family (axesOf quad) ≡ true
+          → reading plane frame family codes quad ≡ tagOf family codes quad (codeOf (levelsOf plane frame family (axesOf quad)) 10 3)
+      unfolding reading
+      reading-on c = simp (good, within, c)
+
+-- a plane and a table that refusals 1 and 6 let through
+pub readable : (plane : List ℕ) (frame : Frame) (family : Family) (codes : List ℕ) → badFrame (length plane) frame ≡ false → badTable family codes ≡ false → Readable plane frame family
+readable plane frame family codes p t =
+    let g = good-plane p in
+    let f = good-table family codes t in
+    record {
+      whole = g .whole;
+      width-le = g .sides .width-le;
+      height-le = g .sides .height-le;
+      edge-pos = f .coded .edges .least;
+      edge-le = f .coded .edges .most;
+      border-le = f .borders .most;
+    }

@@ -1,0 +1,43 @@
+-- The search's outcome, with the corners. Assumes nothing.
+use mathlib.Core.Path.{_≡_, refl, sym, ap, _∙_}
+use Prim.Native.Nat.{ℕ}
+use borrow.Author.Needs.{needs}
+use Rattle.refusals.specs.Outcome.{accepted}
+use Rattle.points.specs.declared.Quad.{Quad}
+use Rattle.search.specs.Answer.{paperFound}
+use Rattle.reader.specs.Reading.{withCorners, tagOf}
+use Rattle.reader.proofs.tag_of.Statement.{statement}
+use Rattle.reader.proofs.tag_of.Tie as tie
+
+best-tag-requires : tie.Need-best-tag-requires
+best-tag-requires c κs = search needs
+
+enum-known-id : tie.Need-enum-known-id
+enum-known-id c = search needs
+
+answer-corners-requires : tie.Need-answer-corners-requires
+answer-corners-requires c κs = search needs
+
+enum-known-n : tie.Need-enum-known-n
+enum-known-n c = search needs
+
+returns : tie.Need-returns
+unfolding tagOf
+returns c =
+    let i = c .before .before in
+    let k = i .before .before in
+    let a = k .before .before .args in
+    ap (λ (q : Quad). accepted (record { id = i .id .given .0 .0; turn = i .id .given .0 .1 .0; corners = q })) (c .answer-corners .ensures)
+    ∙ ap (withCorners (a .quad)) (sym (ap paperFound (i .id .given .1)) ∙ k .best-tag .ensures)
+
+returns-2 : tie.Need-returns-2
+unfolding tagOf
+returns-2 c =
+    let i = c .before in
+    let k = i .before .before in
+    let a = k .before .before .args in
+    ap (withCorners (a .quad)) (sym (ap paperFound (i .n .given .1)) ∙ k .best-tag .ensures)
+
+pub tag-of-spec : {M : Type 1} → statement M
+tag-of-spec =
+    tie.close (tie.spec best-tag-requires enum-known-id answer-corners-requires enum-known-n returns returns-2)
