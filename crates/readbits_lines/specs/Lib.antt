@@ -1,0 +1,5 @@
+pub mod Lines
+pub mod Word
+pub mod Text
+pub mod Readbits
+pub mod Put
