@@ -1,3 +1,4 @@
 pub mod Codes
 pub mod BitCode
 pub mod Likeness
+pub mod Quad

@@ -1,10 +1,19 @@
 // Codes, levels and quads: the entries that port the original's detector.rs.
 use levels::Bits;
+use points::Quad;
+use reader::Reading;
+use refusals::Frame;
 use search::Found;
 use tables::Family;
+use tag_families::codes::T16H5;
+use tag_families::codes::T25H7;
+use tag_families::codes::T25H9;
+use tag_families::codes::T36H11;
 ghost use mathlib.Core.Path.{_≡_};
 ghost use Rattle.levels.specs.Bits.{paperBits};
 ghost use Rattle.search.specs.Answer.{paperFound};
+ghost use Rattle.reader.specs.Answer.{paperReading};
+ghost use Rattle.muosleap.specs.Quad.{decodeQuad, decodeQuadIn};
 ghost use Rattle.muosleap.specs.BitCode.{bitCode};
 ghost use Rattle.muosleap.specs.Likeness.{paperLikeness, checkLikeness};
 ghost use Rattle.muosleap.specs.Codes.{paperTurned, turned, bestTag};
@@ -65,4 +74,42 @@ pub fn bit_code(levels: &[u8], band: u8, allowed: u32) -> Bits
         return Bits::Refused(15);
     }
     levels::bit_code(levels, band, allowed)
+}
+
+// A reading of one quad with a lent table. Refusals 1, 6, and 8 to 13.
+pub fn try_decode_quad(
+    plane: &[u8],
+    frame: Frame,
+    family: Family,
+    codes: &[u64],
+    quad: Quad,
+) -> Reading
+    ensures { λ r. ⌜ paperReading r ≡ decodeQuad (now (plane .entry)) frame family (now (codes .entry)) quad ⌝ }
+{
+    if refusals::bad_frame(plane.len(), frame) {
+        return Reading::Refused(1);
+    }
+    if tables::bad_table(family, codes) {
+        return Reading::Refused(6);
+    }
+    reader::try_decode_quad(plane, frame, family, codes, quad)
+}
+
+// The same by family number, over the constant tables. Refusal 6 where there is no such family.
+pub fn try_decode_quad_in(plane: &[u8], frame: Frame, family: u8, quad: Quad) -> Reading
+    ensures { λ r. ⌜ paperReading r ≡ decodeQuadIn (now (plane .entry)) frame family quad ⌝ }
+{
+    if refusals::bad_frame(plane.len(), frame) {
+        return Reading::Refused(1);
+    }
+    if 5 <= family {
+        return Reading::Refused(6);
+    }
+    let table = tag_families::family(family);
+    match family {
+        0 => reader::try_decode_quad(plane, frame, table, &T16H5, quad),
+        1 => reader::try_decode_quad(plane, frame, table, &T25H7, quad),
+        2 => reader::try_decode_quad(plane, frame, table, &T25H9, quad),
+        _ => reader::try_decode_quad(plane, frame, table, &T36H11, quad),
+    }
 }
