@@ -1,2 +1,4 @@
 pub mod Samples
 pub mod Order
+pub mod Depends
+pub mod Starts

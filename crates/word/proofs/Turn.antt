@@ -35,8 +35,8 @@ module _ (e : ℕ) where
   unfolding turn
   bit-turn w k l = bit-word (e * e) (λ j. bit w (source e j)) (λ j. bit-lt w (source e j)) k l
 
-  four : (k : ℕ) → k < e * e → source e (source e (source e (source e k))) ≡ k
-  four = by-square (λ (k : ℕ). source e (source e (source e (source e k))) ≡ k) (λ i j hi hj.
+  pub source-four : (k : ℕ) → k < e * e → source e (source e (source e (source e k))) ≡ k
+  source-four = by-square (λ (k : ℕ). source e (source e (source e (source e k))) ≡ k) (λ i j hi hj.
       let i′ : e - 1 - (e - 1 - i) ≡ i = omega arith in
       let j′ : e - 1 - (e - 1 - j) ≡ j = omega arith in
       let li : e - 1 - i < e = omega arith in
@@ -57,7 +57,7 @@ module _ (e : ℕ) where
       let l3 = source-lt (source e (source e k)) l2 in
       bit-turn (turn e (turn e (turn e w))) k l ∙ bit-turn (turn e (turn e w)) (source e k) l1
       ∙ bit-turn (turn e w) (source e (source e k)) l2 ∙ bit-turn w (source e (source e (source e k))) l3
-      ∙ ap (bit w) (four k l))
+      ∙ ap (bit w) (source-four k l))
 
 -- a turn takes each place of the square once
 pub sum-turn : (e : ℕ) (f : ℕ → ℕ) → sum (e * e) (λ k. f (source e k)) ≡ sum (e * e) f
