@@ -1,12 +1,20 @@
 -- The examples that document 01 marks P, in one table: what the definitions work out, and what the paper says.
 -- An outcome is written as its numbers: 0 and the values, or the refusal's number alone. Assumes nothing.
-use Prim.Native.Nat.{ℕ}
+use Prim.Native.Nat.{ℕ, _*_}
 use mathlib.Core.List.{List, [], _∷_}
+use lib.Ieee.{Float, binary32, ofBits}
+use lib.IntN.{natAbs}
 use Rattle.refusals.specs.Outcome.{Outcome, accepted, refused}
 use Rattle.word.specs.Word.{turns}
+use Rattle.points.specs.declared.Point.{Point}
+use Rattle.points.specs.declared.Quad.{Quad}
+use Rattle.places.specs.declared.Axis.{Axis}
+use Rattle.places.specs.Place.{axesOf, modulePlace, modulePixel}
+use Rattle.levels.specs.Levels.{middleOf, unsure}
 use Rattle.search.specs.Search.{Seen}
 use Rattle.tag_families.specs.Codes.{t16h5}
 use Rattle.muosleap.specs.Codes.{turned, bestTag}
+use Rattle.muosleap.specs.BitCode.{bitCode}
 
 pub record Row : Type 0 where
   pub worked : List ℕ
@@ -24,6 +32,28 @@ wordNumbers (refused n) = n ∷ []
 abbrev searched : ℕ → List ℕ
 searched w = tagNumbers (bestTag w 1 t16h5 4)
 
+-- the levels that the quad reader takes: band 10, three unsure allowed
+abbrev levelled : List ℕ → List ℕ
+levelled levels = wordNumbers (bitCode levels 10 3)
+
+-- 0.5 and 16.5 as f32
+abbrev half : Float
+half = ofBits binary32 0x3F00_0000
+
+abbrev sixteenHalf : Float
+sixteenHalf = ofBits binary32 0x4184_0000
+
+abbrev corner : Float → Float → Point
+corner x y = record { x = x; y = y }
+
+abbrev square : Quad
+square =
+    record { q0 = corner half half; q1 = corner sixteenHalf half; q2 = corner sixteenHalf sixteenHalf; q3 = corner half sixteenHalf }
+
+-- module (2, 2) of an axis: twice its place in 4096 × side parts of a pixel, and its pixel
+abbrev module22 : Axis → List ℕ
+module22 axis = 2 * natAbs (modulePlace axis 8 2 2) ∷ modulePixel axis 8 2 2 ∷ []
+
 abbrev pub rows : List Row
 rows =
     -- "one turn of 231B (hexadecimal, edge 4) is 7D01; two, D8C4; three, 80BE"
@@ -34,4 +64,12 @@ rows =
     record { worked = searched 0x231B; says = 0 ∷ 0 ∷ 0 ∷ [] } ∷
     record { worked = searched 0x7D01; says = 0 ∷ 0 ∷ 3 ∷ [] } ∷
     record { worked = searched 0x231A; says = 13 ∷ [] } ∷
+    -- "levels 0 and 50 pass, 0 and 49 give 11; 0 and 51 have middle 26, where 17 and 35 are unsure, 16 and 36 not"
+    record { worked = levelled (0 ∷ 50 ∷ []); says = 0 ∷ 1 ∷ [] } ∷
+    record { worked = levelled (0 ∷ 49 ∷ []); says = 11 ∷ [] } ∷
+    record { worked = middleOf (0 ∷ 51 ∷ []) ∷ []; says = 26 ∷ [] } ∷
+    record { worked = unsure 26 10 17 ∷ unsure 26 10 35 ∷ unsure 26 10 16 ∷ unsure 26 10 36 ∷ []; says = 1 ∷ 1 ∷ 0 ∷ 0 ∷ [] } ∷
+    -- "T16H5 quad (0.5, 0.5), (16.5, 0.5), (16.5, 16.5), (0.5, 16.5): module (2, 2) at 5.5, 5.5, pixel 6, 6"
+    record { worked = module22 (axesOf square .x); says = 11 * (4096 * 8) ∷ 6 ∷ [] } ∷
+    record { worked = module22 (axesOf square .y); says = 11 * (4096 * 8) ∷ 6 ∷ [] } ∷
     []
