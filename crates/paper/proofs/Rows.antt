@@ -3,6 +3,7 @@ use mathlib.Core.Path.{_≡_, refl}
 use mathlib.Core.List.{List, [], _∷_, map}
 use Prim.Native.Nat.{ℕ}
 use Rattle.word.specs.Word.{turns}
+use lib.Ieee.{ofBits}
 use Rattle.levels.specs.Levels.{overAll}
 use Rattle.places.specs.Rounding.{in1024ths}
 use Rattle.muosleap.specs.Codes.{turned, bestTag}
@@ -10,5 +11,5 @@ use Rattle.muosleap.specs.BitCode.{bitCode}
 use Rattle.paper.specs.Rows.{Row, rows}
 
 pub rows-hold : map (λ (r : Row). r .worked) rows ≡ map (λ (r : Row). r .says) rows
-unfolding turns turned bestTag bitCode overAll in1024ths
+unfolding turns turned bestTag bitCode overAll in1024ths ofBits
 rows-hold = refl
