@@ -27,10 +27,10 @@ use Rattle.reader.proofs.Depends.{tabulate-ext}
 
 module _ (family : Family) (q : Quad) where
   -- sample k of the next start is the sample that one turn of the square puts at k
-  column-turned : (k : ℕ) → k < samples family → column (axesOf (turnedOnce q)) family k ≡ column (axesOf q) family (source (family .edge) k)
+  pub column-turned : (k : ℕ) → k < samples family → column (axesOf (turnedOnce q)) family k ≡ column (axesOf q) family (source (family .edge) k)
   column-turned k h = sample-turned-x q (family .edge) (family .border) k h
 
-  row-turned : (k : ℕ) → k < samples family → row (axesOf (turnedOnce q)) family k ≡ row (axesOf q) family (source (family .edge) k)
+  pub row-turned : (k : ℕ) → k < samples family → row (axesOf (turnedOnce q)) family k ≡ row (axesOf q) family (source (family .edge) k)
   row-turned k h = sample-turned-y q (family .edge) (family .border) k h
 
   module _ (frame : Frame) where

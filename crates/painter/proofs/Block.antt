@@ -1,0 +1,113 @@
+-- Blocks of pixels that are painted one after another. Assumes nothing.
+use mathlib.Core.Path.{_≡_, refl, sym, ap, ap₂, _∙_}
+use mathlib.Core.Bool.{Bool, true, false, _&&_, _||_, cond, true≢false, and-or-distrib-left, and-or-distrib-right, and-false}
+use mathlib.Core.List.{List}
+use Prim.Native.Nat.{ℕ, _+_, _-_, _*_, _/_, _%_, _<_, _≤_}
+use native.Mathlib.Nat.{div-add-mod', mul-le-mul-right, mul-comm}
+use native.Mathlib.Omega.{arith}
+use lib.ListN.{length, getD}
+use Rattle.lists.proofs.All.{and-left, and-right}
+use Rattle.lists.proofs.Grid.{row-of, column-of, next-row}
+use Rattle.refusals.specs.Plane.{badFrame}
+use Rattle.refusals.specs.declared.Frame.{Frame}
+use Rattle.refusals.proofs.Plane.{good-plane}
+use Rattle.painter.specs.Picture.{placeOf, repainted, between, runFilled, inBlock, blockPixel}
+use Rattle.painter.proofs.Runs.{Within, is-within, within, between-none, between-more, length-run, byte-run}
+use Rattle.painter.proofs.Picture.{is-repainted, repainted-none, repainted-twice}
+
+-- what is painted s by one test and then t by another is painted s by either, where t is s
+pub overlay : (a b : Bool) (s t old : ℕ) → (b ≡ true → t ≡ s) → cond b t (cond a s old) ≡ cond (a || b) s old
+overlay true true s t old e = e refl
+overlay true false s t old e = refl
+overlay false true s t old e = e refl
+overlay false false s t old e = refl
+
+-- two tests that agree
+same : (a b : Bool) → (a ≡ true → b ≡ true) → (b ≡ true → a ≡ true) → a ≡ b
+same true b f g = sym (f refl)
+same false true f g = absurd (true≢false (sym (g refl)))
+same false false f g = refl
+
+pub record In (x0 y0 wide high x y : ℕ) : Type 0 where
+  pub across : Within x0 wide x
+  pub down : Within y0 high y
+
+pub is-in : (x0 y0 wide high x y : ℕ) → inBlock x0 y0 wide high x y ≡ true → In x0 y0 wide high x y
+is-in x0 y0 wide high x y e = record {
+  across = is-within x0 wide x (and-left (between x0 wide x) (between y0 high y) e);
+  down = is-within y0 high y (and-right (between x0 wide x) (between y0 high y) e);
+}
+
+pub block-in : (x0 y0 wide high x y : ℕ) → x0 ≤ x → x < x0 + wide → y0 ≤ y → y < y0 + high → inBlock x0 y0 wide high x y ≡ true
+block-in x0 y0 wide high x y a b c d = ap₂ _&&_ (within x0 wide x a b) (within y0 high y c d)
+
+-- a block with more rows, and with more columns
+pub more-rows : (x0 y0 wide n m x y : ℕ) → inBlock x0 y0 wide (n + m) x y ≡ inBlock x0 y0 wide n x y || inBlock x0 (y0 + n) wide m x y
+more-rows x0 y0 wide n m x y =
+    ap (λ (t : Bool). between x0 wide x && t) (between-more y0 n m y)
+    ∙ and-or-distrib-left (between x0 wide x) (between y0 n y) (between (y0 + n) m y)
+
+pub more-columns : (x0 y0 n m high x y : ℕ) → inBlock x0 y0 (n + m) high x y ≡ inBlock x0 y0 n high x y || inBlock (x0 + n) y0 m high x y
+more-columns x0 y0 n m high x y =
+    ap (λ (t : Bool). t && between y0 high y) (between-more x0 n m x)
+    ∙ and-or-distrib-right (between x0 n x) (between (x0 + n) m x) (between y0 high y)
+
+-- a block of no rows, and of no columns
+pub no-rows : (x0 y0 wide x y : ℕ) → inBlock x0 y0 wide 0 x y ≡ false
+no-rows x0 y0 wide x y = ap (λ (t : Bool). between x0 wide x && t) (between-none y0 y) ∙ and-false (between x0 wide x)
+
+pub no-columns : (x0 y0 high x y : ℕ) → inBlock x0 y0 0 high x y ≡ false
+no-columns x0 y0 high x y = ap (λ (t : Bool). t && between y0 high y) (between-none x0 x)
+
+-- ---- a run of bytes within a row is a block of one row
+
+module _ (w x y n k : ℕ) (W : 0 < w) (fits : x + n ≤ w) where
+  run-to-block : Within (y * w + x) n k → In x y n 1 (k % w) (k / w)
+  run-to-block i =
+      let c = k - y * w in
+      let e : k ≡ y * w + c = omega arith in
+      let col : c < w = omega arith in
+      let column : k % w ≡ c = ap (λ (n : ℕ). n % w) e ∙ column-of w y c col in
+      let row : k / w ≡ y = ap (λ (n : ℕ). n / w) e ∙ row-of w y c col in
+      record { across = record { from = omega arith; to = omega arith }; down = record { from = omega arith; to = omega arith } }
+
+  block-to-run : In x y n 1 (k % w) (k / w) → Within (y * w + x) n k
+  block-to-run i =
+      let row : k / w ≡ y = omega (arith, i .down .from, i .down .to) in
+      let e : y * w + k % w ≡ k = ap (λ (r : ℕ). r * w + k % w) (sym row) ∙ div-add-mod' k w in
+      record { from = omega (arith, i .across .from); to = omega (arith, i .across .to) }
+
+  run-block : between (y * w + x) n k ≡ inBlock x y n 1 (k % w) (k / w)
+  run-block =
+      same (between (y * w + x) n k) (inBlock x y n 1 (k % w) (k / w))
+      (λ e. let i = run-to-block (is-within (y * w + x) n k e) in block-in x y n 1 (k % w) (k / w) (i .across .from) (i .across .to) (i .down .from) (i .down .to))
+      (λ e. let i = block-to-run (is-in x y n 1 (k % w) (k / w) e) in within (y * w + x) n k (i .from) (i .to))
+
+run-painted : (frame : Frame) (x y n shade : ℕ) (plane : List ℕ) → 0 < frame .width → x + n ≤ frame .width
+    → runFilled (placeOf frame x y) n shade plane ≡ repainted frame (blockPixel x y n 1 shade) plane
+run-painted frame x y n shade plane W fits =
+    is-repainted frame (blockPixel x y n 1 shade) plane (runFilled (placeOf frame x y) n shade plane) (length-run (placeOf frame x y) shade plane n)
+    (λ k b. byte-run (placeOf frame x y) shade plane n k b ∙ ap (λ (t : Bool). cond t shade (getD plane k 0)) (run-block (frame .width) x y n k W fits))
+
+-- ---- the loop that paints a block row by row
+
+module _ (frame : Frame) (x y wide shade : ℕ) (plane : List ℕ) where
+  pub block-none : plane ≡ repainted frame (blockPixel x y wide 0 shade) plane
+  block-none =
+      repainted-none frame (blockPixel x y wide 0 shade) plane (λ px py old. ap (λ (t : Bool). cond t shade old) (no-rows x y wide px py))
+
+  pub block-more : (n : ℕ) (out : List ℕ) → 0 < frame .width → x + wide ≤ frame .width → out ≡ repainted frame (blockPixel x y wide n shade) plane
+      → runFilled (placeOf frame x (y + n)) wide shade out ≡ repainted frame (blockPixel x y wide (n + 1) shade) plane
+  block-more n out W fits e =
+      run-painted frame x (y + n) wide shade out W fits
+      ∙ ap (repainted frame (blockPixel x (y + n) wide 1 shade)) e
+      ∙ repainted-twice frame (blockPixel x y wide n shade) (blockPixel x (y + n) wide 1 shade) (blockPixel x y wide (n + 1) shade) plane (λ px py old.
+      overlay (inBlock x y wide n px py) (inBlock x (y + n) wide 1 px py) shade shade old (λ t. refl)
+      ∙ ap (λ (t : Bool). cond t shade old) (sym (more-rows x y wide n 1 px py)))
+
+-- such a row lies in the plane
+pub row-inside : (frame : Frame) (len x y wide : ℕ) → badFrame len frame ≡ false → x + wide ≤ frame .width → y < frame .height → placeOf frame x y + wide ≤ len
+row-inside frame len x y wide good fits h =
+    let p = good-plane good in
+    let l : y + 1 ≤ frame .height = omega arith in
+    omega (arith, p .whole, mul-le-mul-right (frame .width) l, next-row (frame .width) y, mul-comm (frame .width) (frame .height))

@@ -1,0 +1,9 @@
+pub mod Runs
+pub mod Picture
+pub mod Block
+pub mod Part
+pub mod Modules
+pub mod Turned
+pub mod Half
+pub mod Printable
+pub mod Painted

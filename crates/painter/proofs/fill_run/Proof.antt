@@ -1,0 +1,63 @@
+-- After i turns the first i bytes of the run have the shade, and the others are as they were. Assumes nothing.
+use mathlib.Core.Path.{_≡_, sym, ap, _∙_}
+use Prim.Native.Nat.{ℕ, _+_, _-_, _≤_}
+use mathlib.Core.List.{List}
+use native.Mathlib.Omega.{arith}
+use lib.ListN.{length, set}
+use Rattle.painter.specs.Picture.{runFilled}
+use Rattle.painter.proofs.Runs.{length-run, run-none, run-more}
+use Rattle.painter.proofs.fill_run.Statement.{statement}
+use Rattle.painter.proofs.fill_run.Tie as tie
+use Rattle.painter.proofs.fill_run.Reads as reads
+use Rattle.painter.proofs.fill_run.Lts as lts
+
+abbrev Inv-loop : tie.InvT-loop
+Inv-loop plane₀ start count shade i₀ plane i = (i ≤ count) × (plane ≡ runFilled start i shade plane₀)
+
+abbrev μ-loop : tie.MeasureT-loop
+μ-loop plane₀ start count shade i₀ plane i = count - i
+
+loop-holds : tie.Need-loop-holds Inv-loop μ-loop
+loop-holds c = (omega arith, run-none (c .args .start) (c .args .shade) (c .args .plane .now))
+
+add-plane : tie.Need-add-plane Inv-loop μ-loop
+add-plane c = omega arith
+
+slice-write-plane : tie.Need-slice-write-plane Inv-loop μ-loop
+slice-write-plane c =
+    let a = c .before .before .args in
+    let l = c .before .loop in
+    omega (arith, ap length (l .inv .1) ∙ length-run (a .start) (a .shade) (a .plane .now) (l .i))
+
+add-i : tie.Need-add-i Inv-loop μ-loop
+add-i c = omega arith
+
+loop-less : tie.Need-loop-less Inv-loop μ-loop
+loop-less c = omega arith
+
+loop-again : tie.Need-loop-again Inv-loop μ-loop
+loop-again c =
+    let a = c .before .before .args in
+    let l = c .before .loop in
+    let s = a .start in (
+      omega arith,
+      ap (λ (b : List ℕ). set b (s + l .i) (a .shade)) (l .inv .1) ∙ run-more s (a .shade) (a .plane .now) (l .i) (omega arith),
+    )
+
+same-length : tie.Need-same-length Inv-loop μ-loop
+same-length c =
+    let a = c .before .before .args in
+    let l = c .before .loop in
+    ap length (l .inv .1) ∙ length-run (a .start) (a .shade) (a .plane .now) (l .i)
+
+returns : tie.Need-returns Inv-loop μ-loop
+returns c =
+    let a = c .before .before .args in
+    let l = c .before .loop in
+    let e : l .i ≡ a .count = omega arith in
+    l .inv .1 ∙ ap (λ (n : ℕ). runFilled (a .start) n (a .shade) (a .plane .now)) e
+
+pub fill-run-spec : {M : Type 1} → statement M
+fill-run-spec =
+    tie.close
+    (tie.spec Inv-loop μ-loop loop-holds add-plane slice-write-plane add-i loop-less loop-again same-length returns)

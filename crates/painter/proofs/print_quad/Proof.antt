@@ -1,0 +1,71 @@
+-- Each coordinate is exact, and the corners are turned as the print is. Assumes nothing.
+use mathlib.Core.Path.{_≡_, ap, _∙_}
+use lib.Ieee.{Float}
+use Rattle.points.specs.Turned.{turnedLeft}
+use Rattle.painter.specs.Corners.{quadOf}
+use borrow.Author.Needs.{needs}
+use Rattle.painter.proofs.print_quad.Statement.{statement}
+use Rattle.painter.proofs.print_quad.Tie as tie
+use Rattle.painter.proofs.print_quad.Reads as reads
+use Rattle.painter.proofs.print_quad.Lts as lts
+use Rattle.painter.proofs.half_before.Reads as half-before-reads
+use Rattle.points.proofs.rotate_left.Reads as rotate-left-reads
+
+-- four corners of the same coordinates
+corners : {l t r b l′ t′ r′ b′ : Float} → l ≡ l′ → t ≡ t′ → r ≡ r′ → b ≡ b′ → quadOf l t r b ≡ quadOf l′ t′ r′ b′
+corners p q u v = λ i. quadOf (p i) (q i) (u i) (v i)
+
+mul-size : tie.Need-mul-size
+mul-size c = search needs
+
+add-size : tie.Need-add-size
+add-size c = search needs
+
+mul-size-2 : tie.Need-mul-size-2
+mul-size-2 c = search needs
+
+half-before-requires : tie.Need-half-before-requires
+half-before-requires c κs = search needs
+
+half-before-requires-2 : tie.Need-half-before-requires-2
+half-before-requires-2 c κs = search needs
+
+add-half-before : tie.Need-add-half-before
+add-half-before c = search needs
+
+half-before-requires-3 : tie.Need-half-before-requires-3
+half-before-requires-3 c κs = search needs
+
+add-half-before-2 : tie.Need-add-half-before-2
+add-half-before-2 c = search needs
+
+half-before-requires-4 : tie.Need-half-before-requires-4
+half-before-requires-4 c κs = search needs
+
+rotate-left-requires : tie.Need-rotate-left-requires
+rotate-left-requires c κs = search needs
+
+returns : tie.Need-returns
+returns c =
+    let b = c .before in
+    let r = b .before .before in
+    let t = r .before .before in
+    let l = t .before in
+    let a = l .before .before .args in
+    c .rotate-left .ensures ∙ ap (turnedLeft (a .print .turn)) (corners (l .half-before .ensures) (t .half-before2 .ensures) (r .half-before3 .ensures) (b .half-before4 .ensures))
+
+pub print-quad-spec : {M : Type 1} → statement M
+print-quad-spec =
+    tie.close
+    (tie.spec
+    mul-size
+    add-size
+    mul-size-2
+    half-before-requires
+    half-before-requires-2
+    add-half-before
+    half-before-requires-3
+    add-half-before-2
+    half-before-requires-4
+    rotate-left-requires
+    returns)

@@ -1,0 +1,76 @@
+-- Each arm is as many quarter turns as the turn says. Assumes nothing.
+use mathlib.Core.Path.{_≡_, refl, sym, ap, _∙_}
+use Prim.Native.Nat.{ℕ, _-_}
+use native.Mathlib.Omega.{arith}
+use borrow.Author.Needs.{needs}
+use Rattle.painter.specs.Tag.{cellAt, turnedCell}
+use Rattle.painter.specs.declared.Cell.{Cell}
+use Rattle.painter.proofs.turned_cell.Statement.{statement}
+use Rattle.painter.proofs.turned_cell.Tie as tie
+use Rattle.painter.proofs.turned_cell.Reads as reads
+use Rattle.painter.proofs.turned_cell.Lts as lts
+
+sub-t6 : tie.Need-sub-t6
+sub-t6 c = search needs
+
+sub-t7 : tie.Need-sub-t7
+sub-t7 c = search needs
+
+sub-t8 : tie.Need-sub-t8
+sub-t8 c = search needs
+
+sub-t9 : tie.Need-sub-t9
+sub-t9 c = search needs
+
+sub-t10 : tie.Need-sub-t10
+sub-t10 c = search needs
+
+sub-t11 : tie.Need-sub-t11
+sub-t11 c = search needs
+
+sub-t12 : tie.Need-sub-t12
+sub-t12 c = search needs
+
+sub-t13 : tie.Need-sub-t13
+sub-t13 c = search needs
+
+-- at the turn k
+at : (side turn k row column : ℕ) → turn ≡ k → turnedCell side k (cellAt row column) ≡ turnedCell side turn (cellAt row column)
+at side turn k row column e = ap (λ (t : ℕ). turnedCell side t (cellAt row column)) (sym e)
+
+returns : tie.Need-returns
+unfolding turnedCell
+returns c = let a = c .before .args in at (a .side) (a .turn) 0 (a .row) (a .column) (c .match .keys1)
+
+returns-2 : tie.Need-returns-2
+unfolding turnedCell
+returns-2 c = let a = c .before .args in at (a .side) (a .turn) 1 (a .row) (a .column) (c .match .keys2)
+
+returns-3 : tie.Need-returns-3
+unfolding turnedCell
+returns-3 c = let a = c .before .args in at (a .side) (a .turn) 2 (a .row) (a .column) (c .match .keys3)
+
+returns-4 : tie.Need-returns-4
+unfolding turnedCell
+returns-4 c =
+    let a = c .before .args in
+    let back : a .column ≡ a .side - 1 - (a .side - 1 - a .column) = omega arith in
+    ap (λ (r : ℕ). cellAt r (a .side - 1 - a .row)) back
+    ∙ at (a .side) (a .turn) 3 (a .row) (a .column) (omega (arith, c .match .rest .1, c .match .rest .0 .1, c .match .rest .0 .0 .1))
+
+pub turned-cell-spec : {M : Type 1} → statement M
+turned-cell-spec =
+    tie.close
+    (tie.spec
+    sub-t6
+    sub-t7
+    sub-t8
+    sub-t9
+    sub-t10
+    sub-t11
+    sub-t12
+    sub-t13
+    returns
+    returns-2
+    returns-3
+    returns-4)

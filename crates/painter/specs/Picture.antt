@@ -1,0 +1,44 @@
+-- An 8-bit plane as a picture: pixel (x, y) stands in column x and row y, each counted from 0; y grows downward. Assumes nothing.
+use Prim.Native.Nat.{ℕ, _+_, _*_, _/_, _%_}
+use mathlib.Core.Bool.{Bool, _&&_, cond}
+use mathlib.Core.List.{List}
+use lib.Dec.{ltb, leb}
+use lib.ListN.{length, getD}
+use Rattle.lists.specs.Tab.{tabulate}
+use Rattle.refusals.specs.declared.Frame.{Frame}
+
+-- x is one of the n numbers from x0 on
+abbrev pub between : ℕ → ℕ → ℕ → Bool
+between x0 n x = leb x0 x && ltb x (x0 + n)
+
+-- the bytes after the n of them from `start` on have got one shade
+abbrev pub runFilled : (start n shade : ℕ) → List ℕ → List ℕ
+runFilled start n shade bytes = tabulate (length bytes) (λ k. cond (between start n k) shade (getD bytes k 0))
+
+-- byte k of a plane is the pixel in this column and this row
+abbrev pub columnOf : Frame → ℕ → ℕ
+columnOf frame k = k % frame .width
+
+abbrev pub rowOf : Frame → ℕ → ℕ
+rowOf frame k = k / frame .width
+
+-- pixel (x, y) is this byte of the plane
+abbrev pub placeOf : Frame → ℕ → ℕ → ℕ
+placeOf frame x y = y * frame .width + x
+
+-- the plane after each pixel (x, y) has become `pixel x y old`, where it was `old`
+unfoldable pub repainted : Frame → (ℕ → ℕ → ℕ → ℕ) → List ℕ → List ℕ
+unfolding tabulate
+repainted frame pixel plane = tabulate (length plane) (λ k. pixel (columnOf frame k) (rowOf frame k) (getD plane k 0))
+
+-- the block of `wide` columns and `high` rows whose upper left pixel is (x0, y0): pixel (x, y) lies in it
+abbrev pub inBlock : (x0 y0 wide high x y : ℕ) → Bool
+inBlock x0 y0 wide high x y = between x0 wide x && between y0 high y
+
+-- pixel (x, y), which was `old`, after the block has got one shade
+abbrev pub blockPixel : (x0 y0 wide high shade x y old : ℕ) → ℕ
+blockPixel x0 y0 wide high shade x y old = cond (inBlock x0 y0 wide high x y) shade old
+
+-- "It fills the plane with light"
+abbrev pub filled : Frame → ℕ → List ℕ → List ℕ
+filled frame light plane = repainted frame (λ x y old. light) plane
