@@ -1,4 +1,9 @@
 pub mod Codes
-pub mod BitCode
 pub mod Likeness
+pub mod BitCode
 pub mod Quad
+pub mod Quads
+pub mod PaintTag
+pub mod ImageUtil
+pub mod SaddleClusters
+pub mod ClusterCenter

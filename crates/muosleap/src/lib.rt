@@ -1,3 +1,10 @@
 // Every public entry, and nothing else. No entry demands anything of its caller: each tests its own refusals, in the order of
-// document 01, and then calls the core below. The modules follow the original's files.
+// document 01, and then calls the core below.
+// Quad to tag: codes, levels, one quad; lists of quads; the painter.
 pub mod detector;
+pub mod quads;
+pub mod painting;
+
+// Picture to clusters: blur, response, threshold; clusters and their centres.
+pub mod image_util;
+pub mod saddles;

@@ -11,9 +11,9 @@ use Rattle.lists.proofs.Grid.{row-of, column-of, next-row}
 use Rattle.refusals.specs.Plane.{badFrame}
 use Rattle.refusals.specs.declared.Frame.{Frame}
 use Rattle.refusals.proofs.Plane.{good-plane}
-use Rattle.painter.specs.Picture.{placeOf, repainted, between, runFilled, inBlock, blockPixel}
+use Rattle.painter.specs.Picture.{placeOf, repainted, between, runFilled, inBlock, blockPixel, filled}
 use Rattle.painter.proofs.Runs.{Within, is-within, within, between-none, between-more, length-run, byte-run}
-use Rattle.painter.proofs.Picture.{is-repainted, repainted-none, repainted-twice}
+use Rattle.painter.proofs.Picture.{is-repainted, repainted-none, repainted-twice, repainted-same}
 
 -- what is painted s by one test and then t by another is painted s by either, where t is s
 pub overlay : (a b : Bool) (s t old : ℕ) → (b ≡ true → t ≡ s) → cond b t (cond a s old) ≡ cond (a || b) s old
@@ -96,10 +96,10 @@ module _ (frame : Frame) (x y wide shade : ℕ) (plane : List ℕ) where
   block-none =
       repainted-none frame (blockPixel x y wide 0 shade) plane (λ px py old. ap (λ (t : Bool). cond t shade old) (no-rows x y wide px py))
 
-  pub block-more : (n : ℕ) (out : List ℕ) → 0 < frame .width → x + wide ≤ frame .width → out ≡ repainted frame (blockPixel x y wide n shade) plane
-      → runFilled (placeOf frame x (y + n)) wide shade out ≡ repainted frame (blockPixel x y wide (n + 1) shade) plane
-  block-more n out W fits e =
-      run-painted frame x (y + n) wide shade out W fits
+  pub block-more : (n : ℕ) (out next : List ℕ) → 0 < frame .width → x + wide ≤ frame .width → out ≡ repainted frame (blockPixel x y wide n shade) plane
+      → next ≡ runFilled (placeOf frame x (y + n)) wide shade out → next ≡ repainted frame (blockPixel x y wide (n + 1) shade) plane
+  block-more n out next W fits e r =
+      r ∙ run-painted frame x (y + n) wide shade out W fits
       ∙ ap (repainted frame (blockPixel x (y + n) wide 1 shade)) e
       ∙ repainted-twice frame (blockPixel x y wide n shade) (blockPixel x (y + n) wide 1 shade) (blockPixel x y wide (n + 1) shade) plane (λ px py old.
       overlay (inBlock x y wide n px py) (inBlock x (y + n) wide 1 px py) shade shade old (λ t. refl)
@@ -111,3 +111,13 @@ row-inside frame len x y wide good fits h =
     let p = good-plane good in
     let l : y + 1 ≤ frame .height = omega arith in
     omega (arith, p .whole, mul-le-mul-right (frame .width) l, next-row (frame .width) y, mul-comm (frame .width) (frame .height))
+
+-- the block of all rows and columns has every pixel
+pub whole-block : (frame : Frame) (light : ℕ) (plane next : List ℕ) → badFrame (length plane) frame ≡ false
+    → next ≡ repainted frame (blockPixel 0 0 (frame .width) (frame .height) light) plane → next ≡ filled frame light plane
+whole-block frame light plane next good e =
+    let w = frame .width in
+    let h = frame .height in
+    let p = good-plane good in
+    e ∙ repainted-same frame (blockPixel 0 0 w h light) (λ x y old. light) plane (p .sides .wide) (p .whole) (λ x y old hx hy.
+    ap (λ (t : Bool). cond t light old) (block-in 0 0 w h x y (omega arith) (omega arith) (omega arith) (omega arith)))

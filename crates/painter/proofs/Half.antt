@@ -2,15 +2,15 @@
 use mathlib.Core.Path.{_≡_, refl, sym, ap, ap₂, _∙_, subst}
 use mathlib.Core.Bool.{Bool, true, false, _&&_, cond}
 use Prim.Native.Nat.{ℕ, zero, suc, _+_, _-_, _*_, _/_, _%_, _^_, _<_, _≤_}
-use native.Mathlib.Nat.{zero-lt-suc, mul-assoc, mul-one, suc-mul, lt-of-lt-of-le, eq-of-mul-eq-mul-right}
+use native.Mathlib.Nat.{zero-lt-suc, mul-assoc, suc-mul, lt-of-lt-of-le, eq-of-mul-eq-mul-right}
 use native.Mathlib.Numerals.{add-one}
 use native.Mathlib.Omega.{arith}
 use borrow.Author.Tests.{lt-ltb, le-ltb}
 use lib.Count.{trailingZeros}
-use lib.Dec.{T, ltb, leb, eqb, lt→ltb, le→leb, lit≤}
+use lib.Dec.{T, ltb, eqb, lt→ltb, lit≤}
 use lib.IntN.{pos, negsuc}
 use lib.Pow.{shl-lt, pow-mono}
-use lib.Ieee.{Float, nan, inf, fin, Format, binary32, prec, low, hid, top, size, up, down, fits, round, sum, add, sub, neg, ofInt, ofFields, ofBits, toBits, odd}
+use lib.Ieee.{Float, fin, Format, binary32, prec, low, hid, top, size, up, down, fits, round, sum, add, sub, neg, ofInt, ofFields, ofBits, toBits, odd}
 use lib.Ieee.Back.{round-whole}
 use lib.Ieee.Bits.{ofBits-toBits}
 use lib.Ieee.Exact.{HasValue, round-exact}

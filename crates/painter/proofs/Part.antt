@@ -1,6 +1,6 @@
 -- The loops that draw a tag cell by cell. A row is drawn in `column` cells from its first on, the tag in `row` rows from its first on. Assumes nothing.
 use mathlib.Core.Path.{_≡_, refl, sym, ap, ap₂, _∙_}
-use mathlib.Core.Bool.{Bool, _||_, cond}
+use mathlib.Core.Bool.{Bool, cond}
 use mathlib.Core.List.{List}
 use Prim.Native.Nat.{ℕ, _+_, _-_, _*_, _/_, _<_}
 use native.Mathlib.Nat.{zero-mul}
@@ -9,9 +9,8 @@ use lib.Arith.{digits-div}
 use Rattle.lists.proofs.Grid.{next-row}
 use Rattle.refusals.specs.declared.Frame.{Frame}
 use Rattle.painter.specs.Picture.{inBlock, repainted, blockPixel}
-use Rattle.painter.specs.Tag.{cellAt, shadeOf, cellOf, sizeOf}
+use Rattle.painter.specs.Tag.{cellAt, shadeOf, cellOf}
 use Rattle.painter.specs.Part.{partPixel}
-use Rattle.painter.specs.declared.Cell.{Cell}
 use Rattle.painter.specs.declared.Print.{Print}
 use Rattle.painter.proofs.Runs.{Within}
 use Rattle.painter.proofs.Picture.{repainted-none, repainted-twice}
@@ -37,15 +36,15 @@ module _ (frame : Frame) (edge border word : ℕ) (print : Print) (plane : List 
       ap (λ (n : ℕ). partPixel edge border word print y0 n high x y old) (zero-mul (print .cell))
       ∙ ap (λ (t : Bool). cond t (shadeOf edge border word print (cellOf print x y)) old) (no-columns (print .x) y0 high x y))
 
-  pub one-cell-more : (row column shade : ℕ) (out : List ℕ) → shade ≡ shadeOf edge border word print (cellAt row column)
+  pub one-cell-more : (row column shade : ℕ) (out next : List ℕ) → shade ≡ shadeOf edge border word print (cellAt row column)
       → out ≡ repainted frame (partPixel edge border word print (print .y + row * print .cell) (column * print .cell) (print .cell)) plane
-      → repainted frame (blockPixel (print .x + column * print .cell) (print .y + row * print .cell) (print .cell) (print .cell) shade) out
-      ≡ repainted frame (partPixel edge border word print (print .y + row * print .cell) ((column + 1) * print .cell) (print .cell)) plane
-  one-cell-more row column shade out s e =
+      → next ≡ repainted frame (blockPixel (print .x + column * print .cell) (print .y + row * print .cell) (print .cell) (print .cell) shade) out
+      → next ≡ repainted frame (partPixel edge border word print (print .y + row * print .cell) ((column + 1) * print .cell) (print .cell)) plane
+  one-cell-more row column shade out next s e r =
       let cell = print .cell in
       let n = column * cell in
       let y0 = print .y + row * cell in
-      ap (repainted frame (blockPixel (print .x + n) y0 cell cell shade)) e
+      r ∙ ap (repainted frame (blockPixel (print .x + n) y0 cell cell shade)) e
       ∙ repainted-twice frame (partPixel edge border word print y0 n cell) (blockPixel (print .x + n) y0 cell cell shade) (partPixel edge border word print y0 ((column + 1) * cell) cell) plane (λ x y old.
       overlay (inBlock (print .x) y0 n cell x y) (inBlock (print .x + n) y0 cell cell x y) (shadeOf edge border word print (cellOf print x y)) shade old (λ t.
       let i = is-in (print .x + n) y0 cell cell x y t in
@@ -59,13 +58,13 @@ module _ (frame : Frame) (edge border word : ℕ) (print : Print) (plane : List 
       ap (λ (n : ℕ). partPixel edge border word print (print .y) wide n x y old) (zero-mul (print .cell))
       ∙ ap (λ (t : Bool). cond t (shadeOf edge border word print (cellOf print x y)) old) (no-rows (print .x) (print .y) wide x y))
 
-  pub one-row-more : (wide row : ℕ) (out : List ℕ) → out ≡ repainted frame (partPixel edge border word print (print .y) wide (row * print .cell)) plane
-      → repainted frame (partPixel edge border word print (print .y + row * print .cell) wide (print .cell)) out
-      ≡ repainted frame (partPixel edge border word print (print .y) wide ((row + 1) * print .cell)) plane
-  one-row-more wide row out e =
+  pub one-row-more : (wide row : ℕ) (out next : List ℕ) → out ≡ repainted frame (partPixel edge border word print (print .y) wide (row * print .cell)) plane
+      → next ≡ repainted frame (partPixel edge border word print (print .y + row * print .cell) wide (print .cell)) out
+      → next ≡ repainted frame (partPixel edge border word print (print .y) wide ((row + 1) * print .cell)) plane
+  one-row-more wide row out next e r =
       let cell = print .cell in
       let n = row * cell in
-      ap (repainted frame (partPixel edge border word print (print .y + n) wide cell)) e
+      r ∙ ap (repainted frame (partPixel edge border word print (print .y + n) wide cell)) e
       ∙ repainted-twice frame (partPixel edge border word print (print .y) wide n) (partPixel edge border word print (print .y + n) wide cell) (partPixel edge border word print (print .y) wide ((row + 1) * cell)) plane (λ x y old.
       overlay (inBlock (print .x) (print .y) wide n x y) (inBlock (print .x) (print .y + n) wide cell x y) (shadeOf edge border word print (cellOf print x y)) (shadeOf edge border word print (cellOf print x y)) old (λ t. refl)
       ∙ ap (λ (t : Bool). cond t (shadeOf edge border word print (cellOf print x y)) old) (sym (more-rows (print .x) (print .y) wide n cell x y))

@@ -1,11 +1,10 @@
 -- A plane that was painted pixel by pixel: its length, its pixels, and one painting after another. Assumes nothing.
 use mathlib.Core.Path.{_≡_, refl, sym, ap, ap₂, _∙_}
 use mathlib.Core.List.{List}
-use Prim.Native.Nat.{ℕ, _+_, _*_, _/_, _%_, _<_}
+use Prim.Native.Nat.{ℕ, _*_, _<_}
 use native.Mathlib.Nat.{div-lt-iff-lt-mul, mod-lt, mul-comm}
 use native.Mathlib.Omega.{arith}
 use lib.ListN.{length, getD}
-use Rattle.lists.specs.Tab.{tabulate}
 use Rattle.lists.proofs.Tab.{length-tabulate, getD-tabulate}
 use Rattle.lists.proofs.Grid.{row-of, column-of, inside}
 use Rattle.refusals.specs.declared.Frame.{Frame}

@@ -2,13 +2,13 @@
 -- turned cell has in the turned word what the cell has in the word. Assumes nothing.
 use mathlib.Core.Path.{_≡_, refl, sym, ap, ap₂, _∙_}
 use mathlib.Core.Bool.{Bool, cond}
-use Prim.Native.Nat.{ℕ, zero, suc, _+_, _-_, _*_, _<_}
+use Prim.Native.Nat.{ℕ, zero, suc, _+_, _-_, _*_, _/_, _%_, _<_}
 use native.Mathlib.Nat.{zero-add, suc-add}
 use native.Mathlib.Omega.{arith}
-use lib.Arith.{digits-lt}
+use lib.Arith.{digits-lt, digits-div, digits-mod}
 use lib.Dec.{eqb}
 use Rattle.word.specs.Word.{bit, source, turn, turns}
-use Rattle.word.proofs.Turn.{source-at, bit-turn, turns-turn}
+use Rattle.word.proofs.Turn.{source-at, by-square, bit-turn, turns-turn}
 use Rattle.painter.specs.Tag.{sideOf, cellAt, quarter, turnedCell, moduleBit, isLight, shadeOf}
 use Rattle.painter.specs.declared.Cell.{Cell}
 use Rattle.painter.specs.declared.Print.{Print}
@@ -42,6 +42,19 @@ module _ (side : ℕ) where
   pub turned-four : (c : Cell) → CellIn side c → turnedCell side 4 c ≡ c
   unfolding turnedCell
   turned-four c i = ap₂ cellAt (omega (arith, i .rows)) (omega (arith, i .columns))
+
+-- module k of a square, row by row, as the samples run
+abbrev pub moduleCell : (edge k : ℕ) → Cell
+moduleCell edge k = cellAt (k / edge) (k % edge)
+
+-- a turn puts at place k what stands at place `source`: the same quarter turn, of places
+pub quarter-source : (e k : ℕ) → k < e * e → quarter e (moduleCell e (source e k)) ≡ moduleCell e k
+quarter-source e = by-square e (λ (k : ℕ). quarter e (moduleCell e (source e k)) ≡ moduleCell e k) (λ i j hi hj.
+    let l : e - 1 - i < e = omega arith in
+    ap (λ (k : ℕ). quarter e (moduleCell e k)) (source-at e i j hj)
+    ∙ ap₂ (λ (r c : ℕ). quarter e (cellAt r c)) (digits-div j l) (digits-mod j l)
+    ∙ quarter-back e i j hi
+    ∙ sym (ap₂ cellAt (digits-div i hj) (digits-mod i hj)))
 
 -- ---- the modules inside the border
 
@@ -98,3 +111,14 @@ turned-bit e (suc q) w c i =
     let m = turnedCell e q c in
     ap (λ (v : ℕ). moduleBit e v (e - 1 - m .column) (m .row)) (turns-turn e q w)
     ∙ quarter-bit e (turns e q w) m (turned-in e q c i) ∙ turned-bit e q w c i
+
+-- so one and the same shade of the picture shows the word's module that is turned as the print is, and, seen from a corner q turns further,
+-- the module of the word turned q times
+pub seen-shade : (edge border q word : ℕ) (print : Print) (c : Cell) → CellIn edge c → let m = turnedCell edge (q + print .turn) c in
+    shadeOf edge border word print (inset border c) ≡ cond (eqb (moduleBit edge (turns edge q word) (m .row) (m .column)) 1) (print .light) (print .dark)
+seen-shade edge border q word print c i =
+    let t = turnedCell edge (print .turn) c in
+    module-shade edge border word print c i
+    ∙ ap (λ (b : ℕ). cond (eqb b 1) (print .light) (print .dark))
+    (sym (turned-bit edge q word t (turned-in edge (print .turn) c i))
+    ∙ ap (λ (m : Cell). moduleBit edge (turns edge q word) (m .row) (m .column)) (turned-add edge q (print .turn) c))

@@ -30,6 +30,21 @@ pub struct Cell {
     pub column: usize,
 }
 
+// The cells in a row of a tag's square.
+fn side_of(edge: u8, border: u8) -> usize
+    ensures { λ r. ⌜ r ≡ sideOf edge border ⌝ }
+{
+    edge as usize + 2 * (border as usize)
+}
+
+// The tag's width and height in pixels.
+fn size_of(edge: u8, border: u8, print: Print) -> usize
+    requires { ⌜ sizeOf edge border print ≤ 4096 ⌝ }
+    ensures { λ r. ⌜ r ≡ sizeOf edge border print ⌝ }
+{
+    side_of(edge, border) * print.cell
+}
+
 // One shade for `count` bytes from `start` on.
 fn fill_run(plane: &mut [u8], start: usize, count: usize, shade: u8)
     requires { ⌜ start + count ≤ length (now plane) ⌝ }
@@ -120,13 +135,9 @@ fn shade(edge: u8, border: u8, word: u64, print: Print, row: usize, column: usiz
     requires { ⌜ (edge ≤ 8) × (border ≤ 4) × (print .turn ≤ 3) × (row < sideOf edge border) × (column < sideOf edge border) ⌝ }
     ensures { λ r. ⌜ r ≡ shadeOf edge border word print (cellAt row column) ⌝ }
 {
-    let edge = edge as usize;
-    let border = border as usize;
-    let cell = turned_cell(edge + 2 * border, print.turn, row, column);
-    if is_light(edge, border, word, cell) {
-        return print.light;
-    }
-    print.dark
+    let cell = turned_cell(side_of(edge, border), print.turn, row, column);
+    let light = is_light(edge as usize, border as usize, word, cell);
+    if light { print.light } else { print.dark }
 }
 
 // One row of the tag's cells.
@@ -142,7 +153,7 @@ fn draw_row(
     requires { ⌜ Printable (length (now plane)) frame edge border word print × (row < sideOf edge border) ⌝ }
     ensures { λ r. ⌜ now (plane .exit) ≡ repainted frame (partPixel edge border word print (print .y + row * print .cell) (sizeOf edge border print) (print .cell)) (now (plane .entry)) ⌝ }
 {
-    let side = edge as usize + 2 * (border as usize);
+    let side = side_of(edge, border);
     let cell = print.cell;
     let y = print.y + row * cell;
     let mut column = 0;
@@ -158,7 +169,7 @@ pub fn draw_tag(plane: &mut [u8], frame: Frame, edge: u8, border: u8, word: u64,
     requires { ⌜ Printable (length (now plane)) frame edge border word print ⌝ }
     ensures { λ r. ⌜ now (plane .exit) ≡ drawn frame edge border word print (now (plane .entry)) ⌝ }
 {
-    let side = edge as usize + 2 * (border as usize);
+    let side = side_of(edge, border);
     let mut row = 0;
     while row < side {
         draw_row(plane, frame, edge, border, word, print, row);
@@ -179,7 +190,7 @@ pub fn print_quad(edge: u8, border: u8, print: Print) -> Quad
     requires { ⌜ (print .x + sizeOf edge border print ≤ 4096) × (print .y + sizeOf edge border print ≤ 4096) ⌝ }
     ensures { λ r. ⌜ r ≡ printQuad edge border print ⌝ }
 {
-    let size = (edge as usize + 2 * (border as usize)) * print.cell;
+    let size = size_of(edge, border, print);
     let left = half_before(print.x);
     let top = half_before(print.y);
     let right = half_before(print.x + size);
@@ -196,7 +207,7 @@ pub fn print_quad(edge: u8, border: u8, print: Print) -> Quad
     points::rotate_left(quad, print.turn)
 }
 
-// In a line of `pixels`, `size` of them from `at` on leave none behind them.
+// In a line of `pixels`, `size` of them from `at` on leave not one behind them.
 fn ends_late(pixels: usize, at: usize, size: usize) -> bool
     ensures { λ r. ⌜ r ≡ endsLate pixels at size ⌝ }
 {
@@ -236,7 +247,7 @@ pub fn bad_print(frame: Frame, edge: u8, border: u8, word: u64, print: Print) ->
     if bad_style(print) {
         return true;
     }
-    let size = (edge as usize + 2 * (border as usize)) * print.cell;
+    let size = size_of(edge, border, print);
     if ends_late(frame.width, print.x, size) {
         return true;
     }

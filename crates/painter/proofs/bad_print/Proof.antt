@@ -1,22 +1,18 @@
 -- The tests of refusal 14 in turn. Assumes nothing.
 use mathlib.Core.Path.{_≡_, sym, ap, _∙_}
-use mathlib.Core.Bool.{Bool, true, false, not, _||_, and-true}
+use mathlib.Core.Bool.{Bool, not, and-true}
 use mathlib.Core.List.{[], _∷_}
 use Prim.Native.Nat.{ℕ}
 use native.Mathlib.Omega.{arith}
 use Rattle.lists.specs.Tab.{all}
 use Rattle.tables.specs.Table.{inSquare}
 use Rattle.tables.proofs.Table.{good-edge, good-border}
-use Rattle.painter.specs.Printable.{badWord, badStyle, endsLate, badPrint}
+use Rattle.painter.specs.Tag.{sizeOf}
+use Rattle.painter.specs.Printable.{badWord, endsLate, badPrint}
 use Rattle.painter.proofs.Printable.{good-style, size-le}
 use borrow.Author.Needs.{needs}
 use Rattle.painter.proofs.bad_print.Statement.{statement}
 use Rattle.painter.proofs.bad_print.Tie as tie
-use Rattle.painter.proofs.bad_print.Reads as reads
-use Rattle.painter.proofs.bad_print.Lts as lts
-use Rattle.painter.proofs.bad_style.Reads as bad-style-reads
-use Rattle.painter.proofs.ends_late.Reads as ends-late-reads
-use Rattle.tables.proofs.codes_fit.Reads as codes-fit-reads
 
 one-word : (edge word : ℕ) → all (inSquare edge) (word ∷ []) ≡ inSquare edge word
 unfolding all
@@ -32,7 +28,7 @@ slice-aggregate-codes-fit c = search needs
 codes-fit-requires : tie.Need-codes-fit-requires
 codes-fit-requires c κs = search needs
 
--- what the tests of the word and the print say
+-- what the test of the word says
 word-test : (c : tie.After-codes-fit) → let a = c .before .before .args in not (c .codes-fit .result) ≡ badWord (a .edge) (a .word)
 word-test c = let a = c .before .before .args in word-bad (c .codes-fit .result) (a .edge) (a .word) (c .codes-fit .ensures)
 
@@ -49,31 +45,31 @@ returns-2 c =
     let w = c .before .before in
     simp (sym (word-test (w .before)) ∙ w .if1 .left, sym (c .before .bad-style .ensures) ∙ c .if2 .taken)
 
-mul-size : tie.Need-mul-size
-mul-size c = search needs
-
-add-size : tie.Need-add-size
-add-size c = search needs
-
-mul-size-2 : tie.Need-mul-size-2
-mul-size-2 c =
-    let s = c .before in
-    let t = s .before .before .before .before in
-    let a = t .before .args in
-    let e = good-edge (a .edge) (t .before .pre .0) in
-    let b = good-border (a .border) (t .before .pre .1) in
-    let p = good-style (a .print) (sym (s .before .bad-style .ensures) ∙ s .if2 .left) in
+size-of-requires : tie.Need-size-of-requires
+size-of-requires c κs =
+    let t = c .before .before .before .before .before in
+    let a = t .args in
+    let e = good-edge (a .edge) (t .pre .0) in
+    let b = good-border (a .border) (t .pre .1) in
+    let p = good-style (a .print) (sym (c .before .bad-style .ensures) ∙ c .if2 .left) in
     omega (arith, size-le (a .edge) (a .border) (a .print) (e .most) (b .most) (p .small))
 
 ends-late-requires : tie.Need-ends-late-requires
 ends-late-requires c κs = search needs
+
+-- what the test of a side says
+late : (c : tie.After-ends-late) → let a = c .before .before .before .before .before .before .before .args in
+    c .ends-late .result ≡ endsLate (a .frame .width) (a .print .x) (sizeOf (a .edge) (a .border) (a .print))
+late c =
+    let a = c .before .before .before .before .before .before .before .args in
+    c .ends-late .ensures ∙ ap (endsLate (a .frame .width) (a .print .x)) (c .before .size-of .ensures)
 
 returns-3 : tie.Need-returns-3
 unfolding badPrint
 returns-3 c =
     let s = c .before .before .before in
     let w = s .before .before in
-    simp (sym (word-test (w .before)) ∙ w .if1 .left, sym (s .before .bad-style .ensures) ∙ s .if2 .left, sym (c .before .ends-late .ensures) ∙ c .if3 .taken)
+    simp (sym (word-test (w .before)) ∙ w .if1 .left, sym (s .before .bad-style .ensures) ∙ s .if2 .left, sym (late (c .before)) ∙ c .if3 .taken)
 
 ends-late-requires-2 : tie.Need-ends-late-requires-2
 ends-late-requires-2 c κs = search needs
@@ -82,9 +78,12 @@ returns-4 : tie.Need-returns-4
 unfolding badPrint
 returns-4 c =
     let x = c .before in
-    let s = x .before .before .before in
+    let z = x .before .before in
+    let s = z .before in
     let w = s .before .before in
-    simp (sym (word-test (w .before)) ∙ w .if1 .left, sym (s .before .bad-style .ensures) ∙ s .if2 .left, sym (x .before .ends-late .ensures) ∙ x .if3 .left) (c .ends-late2 .ensures)
+    let a = w .before .before .before .args in
+    simp (sym (word-test (w .before)) ∙ w .if1 .left, sym (s .before .bad-style .ensures) ∙ s .if2 .left, sym (late (x .before)) ∙ x .if3 .left)
+    (c .ends-late2 .ensures ∙ ap (endsLate (a .frame .height) (a .print .y)) (z .size-of .ensures))
 
 pub bad-print-spec : {M : Type 1} → statement M
 bad-print-spec =
@@ -95,9 +94,7 @@ bad-print-spec =
     returns
     bad-style-requires
     returns-2
-    mul-size
-    add-size
-    mul-size-2
+    size-of-requires
     ends-late-requires
     returns-3
     ends-late-requires-2

@@ -1,7 +1,6 @@
 -- After `column` turns that many cells of the row are drawn, and all other pixels are as they were. Assumes nothing.
-use mathlib.Core.Path.{_≡_, sym, ap, _∙_}
-use mathlib.Core.List.{List}
-use Prim.Native.Nat.{ℕ, _+_, _-_, _*_, _<_, _≤_}
+use mathlib.Core.Path.{_≡_, ap, _∙_}
+use Prim.Native.Nat.{ℕ, _+_, _-_, _*_, _≤_}
 use native.Mathlib.Omega.{arith}
 use lib.ListN.{length}
 use Rattle.refusals.specs.Plane.{badFrame}
@@ -13,49 +12,42 @@ use Rattle.painter.proofs.Part.{no-cells, one-cell-more}
 use Rattle.painter.proofs.Printable.{good-print, CellInside, cell-inside}
 use Rattle.painter.proofs.draw_row.Statement.{statement}
 use Rattle.painter.proofs.draw_row.Tie as tie
-use Rattle.painter.proofs.draw_row.Reads as reads
-use Rattle.painter.proofs.draw_row.Lts as lts
-use Rattle.painter.proofs.fill_block.Reads as fill-block-reads
-use Rattle.painter.proofs.shade.Reads as shade-reads
 
 abbrev Inv-loop : tie.InvT-loop
-Inv-loop plane₀ frame edge border word print row side cell y column₀ plane column = (column ≤ side) × (plane ≡ repainted frame (partPixel edge border word print y (column * cell) cell) plane₀)
+Inv-loop plane₀ frame edge border word print row side cell y column₀ plane column = (side ≡ sideOf edge border) × (column ≤ side) × (plane ≡ repainted frame (partPixel edge border word print y (column * cell) cell) plane₀)
 
 abbrev μ-loop : tie.MeasureT-loop
 μ-loop plane₀ frame edge border word print row side cell y column₀ plane column = side - column
 
-mul-side : tie.Need-mul-side Inv-loop μ-loop
-mul-side c = omega arith
-
-add-side : tie.Need-add-side Inv-loop μ-loop
-add-side c = omega arith
+side-of-requires : tie.Need-side-of-requires Inv-loop μ-loop
+side-of-requires c κs = tt
 
 mul-y : tie.Need-mul-y Inv-loop μ-loop
-mul-y c = let s = c .before in let i = cell-inside (s .pre .0) (s .args .row) (s .pre .1) in omega arith
+mul-y c = let s = c .before .before in let i = cell-inside (s .pre .0) (s .args .row) (s .pre .1) in omega arith
 
 add-y : tie.Need-add-y Inv-loop μ-loop
-add-y c = let s = c .before .before in let i = cell-inside (s .pre .0) (s .args .row) (s .pre .1) in omega arith
+add-y c = let s = c .before .before .before in let i = cell-inside (s .pre .0) (s .args .row) (s .pre .1) in omega arith
 
 loop-holds : tie.Need-loop-holds Inv-loop μ-loop
 loop-holds c =
-    let a = c .before .before .args in
-    (omega arith, no-cells (a .frame) (a .edge) (a .border) (a .word) (a .print) (a .plane .now) (a .print .y + a .row * a .print .cell) (a .print .cell))
+    let a = c .before .before .before .args in
+    (c .before .side-of .ensures, omega arith, no-cells (a .frame) (a .edge) (a .border) (a .word) (a .print) (a .plane .now) (a .print .y + a .row * a .print .cell) (a .print .cell))
 
 shade-requires : tie.Need-shade-requires Inv-loop μ-loop
 shade-requires c κs =
-    let s = c .before .before .before .before in
+    let s = c .before .before .before .before .before in
     let g = good-print (s .pre .0) in
-    (g .edges .most, g .borders .most, g .style .turns, s .pre .1, c .loop-test .taken)
+    (g .edges .most, g .borders .most, g .style .turns, s .pre .1, omega arith)
 
 -- the cell that is drawn next lies within the picture
-inside : (c : tie.In-loop Inv-loop μ-loop) → let a = c .before .before .before .before .args in CellInside (a .frame) (a .print) (c .before .loop .column)
-inside c = cell-inside (c .before .before .before .before .pre .0) (c .before .loop .column) (c .loop-test .taken)
+inside : (c : tie.In-loop Inv-loop μ-loop) → let a = c .before .before .before .before .before .args in CellInside (a .frame) (a .print) (c .before .loop .column)
+inside c = cell-inside (c .before .before .before .before .before .pre .0) (c .before .loop .column) (omega arith)
 
 -- the plane is as long as it was
-long : (c : tie.At-loop Inv-loop μ-loop) → length (c .loop .plane) ≡ length (c .before .before .before .args .plane .now)
+long : (c : tie.At-loop Inv-loop μ-loop) → length (c .loop .plane) ≡ length (c .before .before .before .before .args .plane .now)
 long c =
-    let a = c .before .before .before .args in
-    ap length (c .loop .inv .1)
+    let a = c .before .before .before .before .args in
+    ap length (c .loop .inv .2)
     ∙ length-repainted (a .frame) (partPixel (a .edge) (a .border) (a .word) (a .print) (a .print .y + a .row * a .print .cell) (c .loop .column * a .print .cell) (a .print .cell)) (a .plane .now)
 
 mul-fill-block : tie.Need-mul-fill-block Inv-loop μ-loop
@@ -67,7 +59,7 @@ add-fill-block c = let i = inside (c .before .before .before) in omega (arith, i
 fill-block-requires : tie.Need-fill-block-requires Inv-loop μ-loop
 fill-block-requires c κs =
     let l = c .before .before .before in
-    let s = l .before .before .before .before in
+    let s = l .before .before .before .before .before in
     (ap (λ (n : ℕ). badFrame n (s .args .frame)) (long (l .before)) ∙ s .pre .0 .planes, inside l .across, cell-inside (s .pre .0) (s .args .row) (s .pre .1) .down)
 
 add-column : tie.Need-add-column Inv-loop μ-loop
@@ -81,10 +73,10 @@ loop-again c =
     let f = c .before .before in
     let h = f .before .before .before in
     let l = h .before .before in
-    let a = l .before .before .before .args in (
+    let a = l .before .before .before .before .args in (
+      l .loop .inv .0,
       omega arith,
-      f .fill-block .ensures
-          ∙ one-cell-more (a .frame) (a .edge) (a .border) (a .word) (a .print) (a .plane .now) (a .row) (l .loop .column) (h .shade .result) (l .loop .plane) (h .shade .ensures) (l .loop .inv .1),
+      one-cell-more (a .frame) (a .edge) (a .border) (a .word) (a .print) (a .plane .now) (a .row) (l .loop .column) (h .shade .result) (l .loop .plane) (f .fill-block .last .0) (h .shade .ensures) (l .loop .inv .2) (f .fill-block .ensures),
     )
 
 same-length : tie.Need-same-length Inv-loop μ-loop
@@ -92,10 +84,10 @@ same-length c = long (c .before)
 
 returns : tie.Need-returns Inv-loop μ-loop
 returns c =
-    let a = c .before .before .before .before .args in
+    let a = c .before .before .before .before .before .args in
     let l = c .before .loop in
     let e : l .column ≡ sideOf (a .edge) (a .border) = omega arith in
-    l .inv .1
+    l .inv .2
     ∙ ap (λ (n : ℕ). repainted (a .frame) (partPixel (a .edge) (a .border) (a .word) (a .print) (a .print .y + a .row * a .print .cell) (n * a .print .cell) (a .print .cell)) (a .plane .now)) e
 
 pub draw-row-spec : {M : Type 1} → statement M
@@ -104,8 +96,7 @@ draw-row-spec =
     (tie.spec
     Inv-loop
     μ-loop
-    mul-side
-    add-side
+    side-of-requires
     mul-y
     add-y
     loop-holds

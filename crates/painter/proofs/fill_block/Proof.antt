@@ -1,6 +1,5 @@
 -- After i turns the first i rows of the block have the shade, and all other pixels are as they were. Assumes nothing.
-use mathlib.Core.Path.{_≡_, sym, ap, _∙_}
-use mathlib.Core.List.{List}
+use mathlib.Core.Path.{_≡_, ap, _∙_}
 use Prim.Native.Nat.{ℕ, _+_, _-_, _≤_}
 use native.Mathlib.Omega.{arith}
 use lib.ListN.{length}
@@ -10,9 +9,6 @@ use Rattle.painter.proofs.Picture.{length-repainted}
 use Rattle.painter.proofs.Block.{block-none, block-more, row-inside}
 use Rattle.painter.proofs.fill_block.Statement.{statement}
 use Rattle.painter.proofs.fill_block.Tie as tie
-use Rattle.painter.proofs.fill_block.Reads as reads
-use Rattle.painter.proofs.fill_block.Lts as lts
-use Rattle.painter.proofs.fill_run.Reads as fill-run-reads
 
 abbrev Inv-loop : tie.InvT-loop
 Inv-loop plane₀ frame x y wide high shade i₀ plane i = (i ≤ high) × (plane ≡ repainted frame (blockPixel x y wide i shade) plane₀)
@@ -59,8 +55,7 @@ loop-again c =
     let s = l .before .before in
     let a = s .args in (
       omega arith,
-      c .before .before .fill-run .ensures
-          ∙ block-more (a .frame) (a .x) (a .y) (a .wide) (a .shade) (a .plane .now) (l .loop .i) (l .loop .plane) (good-plane (s .pre .0) .sides .wide) (s .pre .1) (l .loop .inv .1),
+      block-more (a .frame) (a .x) (a .y) (a .wide) (a .shade) (a .plane .now) (l .loop .i) (l .loop .plane) (c .before .before .fill-run .last .0) (good-plane (s .pre .0) .sides .wide) (s .pre .1) (l .loop .inv .1) (c .before .before .fill-run .ensures),
     )
 
 same-length : tie.Need-same-length Inv-loop μ-loop

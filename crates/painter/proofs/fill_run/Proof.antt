@@ -1,5 +1,5 @@
 -- After i turns the first i bytes of the run have the shade, and the others are as they were. Assumes nothing.
-use mathlib.Core.Path.{_≡_, sym, ap, _∙_}
+use mathlib.Core.Path.{_≡_, ap, _∙_}
 use Prim.Native.Nat.{ℕ, _+_, _-_, _≤_}
 use mathlib.Core.List.{List}
 use native.Mathlib.Omega.{arith}
@@ -8,8 +8,6 @@ use Rattle.painter.specs.Picture.{runFilled}
 use Rattle.painter.proofs.Runs.{length-run, run-none, run-more}
 use Rattle.painter.proofs.fill_run.Statement.{statement}
 use Rattle.painter.proofs.fill_run.Tie as tie
-use Rattle.painter.proofs.fill_run.Reads as reads
-use Rattle.painter.proofs.fill_run.Lts as lts
 
 abbrev Inv-loop : tie.InvT-loop
 Inv-loop plane₀ start count shade i₀ plane i = (i ≤ count) × (plane ≡ runFilled start i shade plane₀)

@@ -1,5 +1,5 @@
 -- Each border is dark; inside them the bit is that of the shifted word. Assumes nothing.
-use mathlib.Core.Path.{_≡_, sym, ap, _∙_}
+use mathlib.Core.Path.{sym, ap, _∙_}
 use Prim.Native.Nat.{ℕ, _+_, _-_, _*_, _/_, _^_, _<_, _≤_}
 use native.Mathlib.Omega.{arith}
 use borrow.Author.Needs.{needs}
@@ -9,8 +9,6 @@ use Rattle.painter.proofs.Runs.{within, before-run, after-run}
 use Rattle.painter.proofs.Modules.{square-le, module-lt, row-dark, column-dark, inside-light}
 use Rattle.painter.proofs.is_light.Statement.{statement}
 use Rattle.painter.proofs.is_light.Tie as tie
-use Rattle.painter.proofs.is_light.Reads as reads
-use Rattle.painter.proofs.is_light.Lts as lts
 
 returns : tie.Need-returns
 returns c =

@@ -1,28 +1,19 @@
 -- Each coordinate is exact, and the corners are turned as the print is. Assumes nothing.
 use mathlib.Core.Path.{_≡_, ap, _∙_}
+use Prim.Native.Nat.{ℕ, _+_}
 use lib.Ieee.{Float}
 use Rattle.points.specs.Turned.{turnedLeft}
-use Rattle.painter.specs.Corners.{quadOf}
+use Rattle.painter.specs.Corners.{halfBefore, quadOf}
 use borrow.Author.Needs.{needs}
 use Rattle.painter.proofs.print_quad.Statement.{statement}
 use Rattle.painter.proofs.print_quad.Tie as tie
-use Rattle.painter.proofs.print_quad.Reads as reads
-use Rattle.painter.proofs.print_quad.Lts as lts
-use Rattle.painter.proofs.half_before.Reads as half-before-reads
-use Rattle.points.proofs.rotate_left.Reads as rotate-left-reads
 
 -- four corners of the same coordinates
 corners : {l t r b l′ t′ r′ b′ : Float} → l ≡ l′ → t ≡ t′ → r ≡ r′ → b ≡ b′ → quadOf l t r b ≡ quadOf l′ t′ r′ b′
 corners p q u v = λ i. quadOf (p i) (q i) (u i) (v i)
 
-mul-size : tie.Need-mul-size
-mul-size c = search needs
-
-add-size : tie.Need-add-size
-add-size c = search needs
-
-mul-size-2 : tie.Need-mul-size-2
-mul-size-2 c = search needs
+size-of-requires : tie.Need-size-of-requires
+size-of-requires c κs = search needs
 
 half-before-requires : tie.Need-half-before-requires
 half-before-requires c κs = search needs
@@ -51,16 +42,22 @@ returns c =
     let r = b .before .before in
     let t = r .before .before in
     let l = t .before in
-    let a = l .before .before .args in
-    c .rotate-left .ensures ∙ ap (turnedLeft (a .print .turn)) (corners (l .half-before .ensures) (t .half-before2 .ensures) (r .half-before3 .ensures) (b .half-before4 .ensures))
+    let s = l .before in
+    let p = s .before .args .print in
+    let size = s .size-of .ensures in
+    c .rotate-left .ensures
+    ∙ ap (turnedLeft (p .turn))
+    (corners
+    (l .half-before .ensures)
+    (t .half-before2 .ensures)
+    (r .half-before3 .ensures ∙ ap (λ (n : ℕ). halfBefore (p .x + n)) size)
+    (b .half-before4 .ensures ∙ ap (λ (n : ℕ). halfBefore (p .y + n)) size))
 
 pub print-quad-spec : {M : Type 1} → statement M
 print-quad-spec =
     tie.close
     (tie.spec
-    mul-size
-    add-size
-    mul-size-2
+    size-of-requires
     half-before-requires
     half-before-requires-2
     add-half-before

@@ -1,14 +1,11 @@
 -- Each arm is as many quarter turns as the turn says. Assumes nothing.
-use mathlib.Core.Path.{_≡_, refl, sym, ap, _∙_}
+use mathlib.Core.Path.{_≡_, sym, ap, _∙_}
 use Prim.Native.Nat.{ℕ, _-_}
 use native.Mathlib.Omega.{arith}
 use borrow.Author.Needs.{needs}
 use Rattle.painter.specs.Tag.{cellAt, turnedCell}
-use Rattle.painter.specs.declared.Cell.{Cell}
 use Rattle.painter.proofs.turned_cell.Statement.{statement}
 use Rattle.painter.proofs.turned_cell.Tie as tie
-use Rattle.painter.proofs.turned_cell.Reads as reads
-use Rattle.painter.proofs.turned_cell.Lts as lts
 
 sub-t6 : tie.Need-sub-t6
 sub-t6 c = search needs

@@ -1,0 +1,17 @@
+pub mod Bools
+pub mod Any
+pub mod Members
+pub mod Neighbours
+pub mod Joined
+pub mod Connected
+pub mod First
+pub mod Stack
+pub mod Around
+pub mod Walk
+pub mod Passed
+pub mod Rows
+pub mod Border
+pub mod Found
+pub mod Scan
+pub mod Largest
+pub mod Center

@@ -1,0 +1,4 @@
+pub mod Connected
+pub mod Clusters
+pub mod Walk
+pub mod Center

@@ -1,0 +1,4 @@
+pub mod Flat
+pub mod Runs
+pub mod Room
+pub mod Listing

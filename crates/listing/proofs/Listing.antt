@@ -1,0 +1,103 @@
+-- What a list reading leaves in its outputs: at each quad's place that quad's own reading, and nothing else. Assumes nothing.
+use mathlib.Core.Path.{_≡_, refl, sym, ap, _∙_}
+use mathlib.Core.Bool.{false}
+use mathlib.Core.List.{List, [], _∷_, flatMap}
+use Prim.Native.Nat.{ℕ, zero, suc, _+_, _*_, _≤_, _<_}
+use native.Mathlib.Nat.{add-zero}
+use native.Mathlib.Omega.{arith}
+use lib.Ieee.{Float, nan}
+use lib.ListN.{length, getD, take, drop}
+use lib.Seq.{drop-cons}
+use Rattle.lists.specs.Tab.{tabulate}
+use Rattle.lists.proofs.Tab.{length-tabulate, getD-tabulate}
+use Rattle.refusals.specs.Outcome.{Outcome, accepted, refused}
+use Rattle.refusals.specs.declared.Frame.{Frame}
+use Rattle.tables.specs.declared.Family.{Family}
+use Rattle.reader.specs.Reading.{Tag, reading}
+use Rattle.listing.specs.Listing.{quadSize, rowSize, quadCount, badList, quadAt, numbersOf, rowOf, cornersOf, readings, Listing, listing, rowAt, cornersAt}
+use Rattle.listing.proofs.Flat.{length-in-front, length-flat, part-at, behind}
+use Rattle.listing.proofs.Room.{good-list}
+
+pub row-size : (o : Outcome Tag) → length (rowOf o) ≡ rowSize
+row-size (accepted tag) = refl
+row-size (refused n) = refl
+
+pub corners-size : (o : Outcome Tag) → length (cornersOf o) ≡ quadSize
+corners-size (accepted tag) = refl
+corners-size (refused n) = refl
+
+-- numbers of a list, one by one
+numbers-at : (n at : ℕ) (l : List Float) → at + n ≤ length l → take n (drop at l) ≡ tabulate n (λ i. getD l (at + i) nan)
+unfolding tabulate
+numbers-at zero at l h = refl
+numbers-at (suc n) at l h =
+    ap (take (suc n)) (drop-cons l at nan (omega arith))
+    ∙ (λ j. getD l (sym (add-zero at) j) nan ∷ numbers-at n (suc at) l (omega arith) j)
+    ∙ (λ j. getD l (at + 0) nan ∷ tabulate n (λ i. getD l (next i j) nan))
+  where
+    next : (i : ℕ) → suc at + i ≡ at + suc i
+    next i = omega arith
+
+-- quad q of a list is its eight numbers there
+pub quad-numbers : (quads : List Float) (q : ℕ) → quadSize * q + quadSize ≤ length quads → cornersAt quads q ≡ numbersOf (quadAt quads q)
+unfolding tabulate
+quad-numbers quads q h = numbers-at quadSize (quadSize * q) quads h ∙ (λ j. getD quads (add-zero (8 * q) j) nan ∷ getD quads (8 * q + 1) nan ∷ getD quads (8 * q + 2) nan ∷ getD quads (place 1 j) nan ∷ getD quads (8 * q + 4) nan ∷ getD quads (place 2 j) nan ∷ getD quads (8 * q + 6) nan ∷ getD quads (place 3 j) nan ∷ [])
+  where
+    -- the y of corner k
+    place : (k : ℕ) → 8 * q + (2 * k + 1) ≡ 8 * q + 2 * k + 1
+    place k = omega arith
+
+module _ (plane : List ℕ) (frame : Frame) (family : Family) (codes : List ℕ) (quads : List Float) where
+  -- what quad q reads as
+  abbrev pub read : ℕ → Outcome Tag
+  read q = reading plane frame family codes (quadAt quads q)
+
+  abbrev count : ℕ
+  count = quadCount (length quads)
+
+  length-readings : length (readings plane frame family codes quads) ≡ count
+  unfolding readings
+  length-readings = length-tabulate count read
+
+  reading-at : (q : ℕ) → q < count → getD (readings plane frame family codes quads) q (refused 0) ≡ read q
+  unfolding readings
+  reading-at q h = getD-tabulate count read q (refused 0) h
+
+  module _ (rows : List ℕ) (corners : List Float) where
+    abbrev result : Listing
+    result = listing plane frame family codes quads rows corners
+
+    -- the row and the corner numbers at a quad's place are those of its own reading
+    pub row-is : (q : ℕ) → q < quadCount (length quads) → rowAt (result .rows) q ≡ rowOf (read q)
+    unfolding listing
+    row-is q h =
+        let all = readings plane frame family codes quads in
+        part-at rowOf rowSize row-size all (drop (length (flatMap rowOf all)) rows) q (refused 0) (omega (arith, length-readings)) ∙ ap rowOf (reading-at q h)
+
+    pub corners-are : (q : ℕ) → q < quadCount (length quads) → cornersAt (result .corners) q ≡ cornersOf (read q)
+    unfolding listing
+    corners-are q h =
+        let all = readings plane frame family codes quads in
+        part-at cornersOf quadSize corners-size all (drop (length (flatMap cornersOf all)) corners) q (refused 0) (omega (arith, length-readings)) ∙ ap cornersOf (reading-at q h)
+
+    -- behind the last quad's place all is as it was
+    pub rows-behind : drop (rowSize * quadCount (length quads)) (result .rows) ≡ drop (rowSize * quadCount (length quads)) rows
+    unfolding listing
+    rows-behind = behind rowOf rowSize row-size (readings plane frame family codes quads) rows count length-readings
+
+    pub corners-behind : drop (quadSize * quadCount (length quads)) (result .corners) ≡ drop (quadSize * quadCount (length quads)) corners
+    unfolding listing
+    corners-behind = behind cornersOf quadSize corners-size (readings plane frame family codes quads) corners count length-readings
+
+    -- the outputs keep their lengths
+    pub rows-length : badList (length quads) (length rows) (length corners) ≡ false → length (result .rows) ≡ length rows
+    unfolding listing
+    rows-length e =
+        let all = readings plane frame family codes quads in
+        length-in-front (flatMap rowOf all) rows (omega (arith, good-list e .row-room, length-flat rowOf rowSize row-size all, length-readings))
+
+    pub corners-length : badList (length quads) (length rows) (length corners) ≡ false → length (result .corners) ≡ length corners
+    unfolding listing
+    corners-length e =
+        let all = readings plane frame family codes quads in
+        length-in-front (flatMap cornersOf all) corners (omega (arith, good-list e .corner-room, length-flat cornersOf quadSize corners-size all, length-readings))

@@ -1,0 +1,30 @@
+-- What a list and outputs that refusal 16 lets through are like. Assumes nothing.
+use mathlib.Core.Path.{_≡_}
+use mathlib.Core.Bool.{false, not, _||_}
+use Prim.Native.Nat.{ℕ, _*_, _%_, _≤_}
+use borrow.Author.Tests.{eqb-true, ltb-false, not-false}
+use lib.Dec.{eqb, ltb}
+use Rattle.lists.proofs.All.{or-left, or-right}
+use Rattle.listing.specs.Listing.{quadSize, rowSize, mostQuads, quadCount, badList}
+
+pub record Room (quads rows corners : ℕ) : Type 0 where
+  pub whole : quads % quadSize ≡ 0
+  pub few : quadCount quads ≤ mostQuads
+  pub row-room : rowSize * quadCount quads ≤ rows
+  pub corner-room : quadSize * quadCount quads ≤ corners
+
+pub good-list : {quads rows corners : ℕ} → badList quads rows corners ≡ false → Room quads rows corners
+unfolding badList
+good-list {quads} {rows} {corners} e =
+    let a = eqb (quads % quadSize) 0 in
+    let b = ltb mostQuads (quadCount quads) in
+    let c = ltb rows (rowSize * quadCount quads) in
+    let d = ltb corners (quadSize * quadCount quads) in
+    let e₁ = or-right (not a) (b || (c || d)) e in
+    let e₂ = or-right b (c || d) e₁ in
+    record {
+      whole = eqb-true (quads % quadSize) 0 (not-false a (or-left (not a) (b || (c || d)) e));
+      few = ltb-false mostQuads (quadCount quads) (or-left b (c || d) e₁);
+      row-room = ltb-false rows (rowSize * quadCount quads) (or-left c d e₂);
+      corner-room = ltb-false corners (quadSize * quadCount quads) (or-right c d e₂);
+    }

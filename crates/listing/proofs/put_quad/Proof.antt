@@ -1,0 +1,58 @@
+-- Four corners, one after the other, are a quad. Assumes nothing.
+use Prim.Native.Nat.{_*_}
+use borrow.Author.Needs.{needs}
+use Rattle.listing.proofs.Runs.{four-corners}
+use Rattle.listing.proofs.put_quad.Statement.{statement}
+use Rattle.listing.proofs.put_quad.Tie as tie
+
+mul-at : tie.Need-mul-at
+mul-at c = search needs
+
+put-point-requires : tie.Need-put-point-requires
+put-point-requires c κs = search needs
+
+add-put-point : tie.Need-add-put-point
+add-put-point c = search needs
+
+put-point-requires-2 : tie.Need-put-point-requires-2
+put-point-requires-2 c κs = search needs
+
+add-put-point-2 : tie.Need-add-put-point-2
+add-put-point-2 c = search needs
+
+put-point-requires-3 : tie.Need-put-point-requires-3
+put-point-requires-3 c κs = search needs
+
+add-put-point-3 : tie.Need-add-put-point-3
+add-put-point-3 c = search needs
+
+put-point-requires-4 : tie.Need-put-point-requires-4
+put-point-requires-4 c κs = search needs
+
+same-length : tie.Need-same-length
+same-length c = search needs
+
+returns : tie.Need-returns
+returns c =
+    let p3 = c .before .before in
+    let p2 = p3 .before .before .before .before in
+    let p1 = p2 .before .before .before .before in
+    let p0 = p1 .before .before .before .before in
+    let a = p0 .before .before .before .args in
+    four-corners (a .quad) (8 * a .q) (a .corners .now) (p0 .put-point .last .0) (p1 .put-point2 .last .0) (p2 .put-point3 .last .0) (p3 .put-point4 .last .0)
+    (p0 .put-point .ensures) (p1 .put-point2 .ensures) (p2 .put-point3 .ensures) (p3 .put-point4 .ensures)
+
+pub put-quad-spec : {M : Type 1} → statement M
+put-quad-spec =
+    tie.close
+    (tie.spec
+    mul-at
+    put-point-requires
+    add-put-point
+    put-point-requires-2
+    add-put-point-2
+    put-point-requires-3
+    add-put-point-3
+    put-point-requires-4
+    same-length
+    returns)

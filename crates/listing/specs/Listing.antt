@@ -1,0 +1,96 @@
+-- A list reading, from 01's "Quad to tag" and refusal 16. Assumes nothing.
+use Prim.Native.Nat.{ℕ, _+_, _*_, _/_, _%_}
+use mathlib.Core.Bool.{Bool, not, _||_}
+use mathlib.Core.List.{List, [], _∷_, _++_, flatMap}
+use lib.Dec.{eqb, ltb}
+use lib.Ieee.{Float, nan, binary32, ofBits}
+use lib.ListN.{length, getD, take, drop, replicate}
+use Rattle.lists.specs.Tab.{tabulate}
+use Rattle.refusals.specs.Outcome.{Outcome, accepted, refused}
+use Rattle.refusals.specs.declared.Frame.{Frame}
+use Rattle.points.specs.declared.Point.{Point}
+use Rattle.points.specs.declared.Quad.{Quad}
+use Rattle.tables.specs.declared.Family.{Family}
+use Rattle.reader.specs.Reading.{Tag, reading}
+
+-- the numbers of a quad, the numbers of a row, and the most quads of a list
+abbrev pub quadSize : ℕ
+quadSize = 8
+
+abbrev pub rowSize : ℕ
+rowSize = 3
+
+abbrev pub mostQuads : ℕ
+mostQuads = 1024
+
+-- how many quads a list of so many numbers has
+abbrev pub quadCount : ℕ → ℕ
+quadCount numbers = numbers / quadSize
+
+-- refusal 16, of the lengths of the quad list and the two outputs: "quad list not a multiple of 8 numbers or above 1,024 quads,
+-- or an output shorter than three numbers and eight corner numbers a quad"
+unfoldable pub badList : ℕ → ℕ → ℕ → Bool
+badList quads rows corners =
+    not (eqb (quads % quadSize) 0) || (ltb mostQuads (quadCount quads)
+    || (ltb rows (rowSize * quadCount quads) || ltb corners (quadSize * quadCount quads)))
+
+-- the corner whose x is number k of a list, and its y the next
+abbrev pub pointAt : List Float → ℕ → Point
+pointAt numbers k = record { x = getD numbers k nan; y = getD numbers (k + 1) nan }
+
+-- quad q of a list: x0 y0 x1 y1 x2 y2 x3 y3
+abbrev pub quadAt : List Float → ℕ → Quad
+quadAt quads q =
+    record {
+      q0 = pointAt quads (quadSize * q);
+      q1 = pointAt quads (quadSize * q + 2);
+      q2 = pointAt quads (quadSize * q + 4);
+      q3 = pointAt quads (quadSize * q + 6);
+    }
+
+-- the numbers of a quad, in the same order
+abbrev pub numbersOf : Quad → List Float
+numbersOf q = q .q0 .x ∷ q .q0 .y ∷ q .q1 .x ∷ q .q1 .y ∷ q .q2 .x ∷ q .q2 .y ∷ q .q3 .x ∷ q .q3 .y ∷ []
+
+-- "a row: refusal or 0, id, turn", and "beside it eight corner numbers". "Rows of refused quads and their corner numbers are zero in
+-- every bit but for the number."
+abbrev pub rowOf : Outcome Tag → List ℕ
+rowOf (accepted tag) = 0 ∷ tag .id ∷ tag .turn ∷ []
+rowOf (refused n) = n ∷ 0 ∷ 0 ∷ []
+
+abbrev pub cornersOf : Outcome Tag → List Float
+cornersOf (accepted tag) = numbersOf (tag .corners)
+cornersOf (refused n) = replicate quadSize (ofBits binary32 0)
+
+-- "A list reading gives each quad by itself a row": what each quad reads as, in order
+unfoldable pub readings : List ℕ → Frame → Family → List ℕ → List Float → List (Outcome Tag)
+unfolding tabulate reading
+readings plane frame family codes quads =
+    tabulate (quadCount (length quads)) (λ q. reading plane frame family codes (quadAt quads q))
+
+-- numbers at the front of an output: "extra output is untouched"
+abbrev pub inFront {ℓ} : {A : Type ℓ} → List A → List A → List A
+inFront numbers output = numbers ++ drop (length numbers) output
+
+-- what a call leaves: its answer, which is the number of quads, and the two outputs
+pub record Listing : Type 0 where
+  pub answer : Outcome ℕ
+  pub rows : List ℕ
+  pub corners : List Float
+
+abbrev pub listingOf : Outcome ℕ → List ℕ → List Float → Listing
+listingOf answer rows corners = record { answer = answer; rows = rows; corners = corners }
+
+-- a list reading that nothing refuses
+unfoldable pub listing : List ℕ → Frame → Family → List ℕ → List Float → List ℕ → List Float → Listing
+unfolding readings flatMap
+listing plane frame family codes quads rows corners =
+    let read = readings plane frame family codes quads in
+    listingOf (accepted (quadCount (length quads))) (inFront (flatMap rowOf read) rows) (inFront (flatMap cornersOf read) corners)
+
+-- the row and the corner numbers of quad q in the outputs
+abbrev pub rowAt : List ℕ → ℕ → List ℕ
+rowAt rows q = take rowSize (drop (rowSize * q) rows)
+
+abbrev pub cornersAt : List Float → ℕ → List Float
+cornersAt corners q = take quadSize (drop (quadSize * q) corners)

@@ -1,0 +1,185 @@
+// List of quads to rows: each quad of a list is read by itself.
+use points::Point;
+use points::Quad;
+use reader::Reading;
+use refusals::Frame;
+use tables::Family;
+use tag_families::codes::T16H5;
+use tag_families::codes::T25H7;
+use tag_families::codes::T25H9;
+use tag_families::codes::T36H11;
+ghost use mathlib.Core.Path.{_≡_};
+ghost use mathlib.Core.Bool.{false};
+ghost use mathlib.Core.List.{[], _∷_};
+ghost use Prim.Native.Nat.{_+_, _*_, _≤_, _<_};
+ghost use lib.ListN.{length};
+ghost use lib.Seq.{sets};
+ghost use Rattle.refusals.specs.Outcome.{accepted};
+ghost use Rattle.refusals.specs.Plane.{badFrame};
+ghost use Rattle.tables.specs.Table.{badTable};
+ghost use Rattle.tag_families.specs.Families.{familyOf, codesOf};
+ghost use Rattle.reader.specs.Answer.{paperReading};
+ghost use Rattle.listing.specs.Listing.{quadSize, rowSize, badList, pointAt, quadAt, numbersOf, rowOf, cornersOf, listingOf, listing};
+
+// The numbers of a quad, the numbers of a row, and the most quads of a list.
+const QUAD_SIZE: usize = 8;
+
+const ROW_SIZE: usize = 3;
+
+const MOST_QUADS: usize = 1024;
+
+// Refusal 16, of the lengths of the quad list and the two outputs.
+pub fn bad_list(quads: usize, rows: usize, corners: usize) -> bool
+    ensures { λ r. ⌜ r ≡ badList quads rows corners ⌝ }
+{
+    let count = quads / QUAD_SIZE;
+    if quads % QUAD_SIZE != 0 {
+        return true;
+    }
+    if MOST_QUADS < count {
+        return true;
+    }
+    if rows < ROW_SIZE * count {
+        return true;
+    }
+    corners < QUAD_SIZE * count
+}
+
+// The corner at place `at` of a list.
+fn point_at(quads: &[f32], at: usize) -> Point
+    requires { ⌜ at + 2 ≤ length (now quads) ⌝ }
+    ensures { λ r. ⌜ r ≡ pointAt (now (quads .entry)) at ⌝ }
+{
+    Point {
+        x: quads[at],
+        y: quads[at + 1],
+    }
+}
+
+// Quad q of a list.
+fn quad_at(quads: &[f32], q: usize) -> Quad
+    requires { ⌜ quadSize * q + quadSize ≤ length (now quads) ⌝ }
+    ensures { λ r. ⌜ r ≡ quadAt (now (quads .entry)) q ⌝ }
+{
+    let at = QUAD_SIZE * q;
+    let q0 = point_at(quads, at);
+    let q1 = point_at(quads, at + 2);
+    let q2 = point_at(quads, at + 4);
+    let q3 = point_at(quads, at + 6);
+    Quad { q0, q1, q2, q3 }
+}
+
+// The row of a quad's reading.
+fn put_row(rows: &mut [u64], q: usize, reading: Reading)
+    requires { ⌜ rowSize * q + rowSize ≤ length (now rows) ⌝ }
+    ensures { λ _. ⌜ now (rows .exit) ≡ sets (now (rows .entry)) (rowSize * q) (rowOf (paperReading reading)) ⌝ }
+{
+    let at = ROW_SIZE * q;
+    match reading {
+        Reading::Tag {
+            id,
+            turn,
+            corners: _,
+        } => {
+            rows[at] = 0;
+            rows[at + 1] = id as u64;
+            rows[at + 2] = turn as u64;
+        }
+        Reading::Refused(n) => {
+            rows[at] = n as u64;
+            rows[at + 1] = 0;
+            rows[at + 2] = 0;
+        }
+    }
+}
+
+// A corner's two numbers.
+fn put_point(corners: &mut [f32], at: usize, p: Point)
+    requires { ⌜ at + 2 ≤ length (now corners) ⌝ }
+    ensures { λ _. ⌜ now (corners .exit) ≡ sets (now (corners .entry)) at (p .x ∷ p .y ∷ []) ⌝ }
+{
+    corners[at] = p.x;
+    corners[at + 1] = p.y;
+}
+
+// A quad's eight numbers.
+fn put_quad(corners: &mut [f32], q: usize, quad: Quad)
+    requires { ⌜ quadSize * q + quadSize ≤ length (now corners) ⌝ }
+    ensures { λ _. ⌜ now (corners .exit) ≡ sets (now (corners .entry)) (quadSize * q) (numbersOf quad) ⌝ }
+{
+    let at = QUAD_SIZE * q;
+    put_point(corners, at, quad.q0);
+    put_point(corners, at + 2, quad.q1);
+    put_point(corners, at + 4, quad.q2);
+    put_point(corners, at + 6, quad.q3);
+}
+
+// The corner numbers of a quad's reading.
+fn put_corners(corners: &mut [f32], q: usize, reading: Reading)
+    requires { ⌜ quadSize * q + quadSize ≤ length (now corners) ⌝ }
+    ensures { λ _. ⌜ now (corners .exit) ≡ sets (now (corners .entry)) (quadSize * q) (cornersOf (paperReading reading)) ⌝ }
+{
+    match reading {
+        Reading::Tag {
+            id: _,
+            turn: _,
+            corners: quad,
+        } => put_quad(corners, q, quad),
+        Reading::Refused(_) => {
+            let zero = Point { x: 0.0, y: 0.0 };
+            let none = Quad {
+                q0: zero,
+                q1: zero,
+                q2: zero,
+                q3: zero,
+            };
+            put_quad(corners, q, none);
+        }
+    }
+}
+
+// The readings of a list, on a plane, with a table and for lengths that refusals 1, 6 and 16 let through: how many they are.
+pub fn try_decode_quads(
+    plane: &[u8],
+    frame: Frame,
+    family: Family,
+    codes: &[u64],
+    quads: &[f32],
+    rows: &mut [u64],
+    corners: &mut [f32],
+) -> usize
+    requires { ⌜ (badFrame (length (now plane)) frame ≡ false) × (badTable family (now codes) ≡ false) × (badList (length (now quads)) (length (now rows)) (length (now corners)) ≡ false) ⌝ }
+    ensures { λ r. ⌜ listingOf (accepted r) (now (rows .exit)) (now (corners .exit)) ≡ listing (now (plane .entry)) frame family (now (codes .entry)) (now (quads .entry)) (now (rows .entry)) (now (corners .entry)) ⌝ }
+{
+    let count = quads.len() / QUAD_SIZE;
+    let mut q = 0;
+    while q < count {
+        let quad = quad_at(quads, q);
+        let reading = reader::try_decode_quad(plane, frame, family, codes, quad);
+        put_row(rows, q, reading);
+        put_corners(corners, q, reading);
+        q += 1;
+    }
+    count
+}
+
+// The same by family number, over the constant tables.
+pub fn try_decode_quads_in(
+    plane: &[u8],
+    frame: Frame,
+    family: u8,
+    quads: &[f32],
+    rows: &mut [u64],
+    corners: &mut [f32],
+) -> usize
+    requires { ⌜ (badFrame (length (now plane)) frame ≡ false) × (family < 5) × (badList (length (now quads)) (length (now rows)) (length (now corners)) ≡ false) ⌝ }
+    ensures { λ r. ⌜ listingOf (accepted r) (now (rows .exit)) (now (corners .exit)) ≡ listing (now (plane .entry)) frame (familyOf family) (codesOf family) (now (quads .entry)) (now (rows .entry)) (now (corners .entry)) ⌝ }
+{
+    let table = tag_families::family(family);
+    match family {
+        0 => try_decode_quads(plane, frame, table, &T16H5, quads, rows, corners),
+        1 => try_decode_quads(plane, frame, table, &T25H7, quads, rows, corners),
+        2 => try_decode_quads(plane, frame, table, &T25H9, quads, rows, corners),
+        _ => try_decode_quads(plane, frame, table, &T36H11, quads, rows, corners),
+    }
+}

@@ -1,0 +1,96 @@
+-- Demand 3, undivided, over the definitions that the public entries are proved equal to. Each hypothesis has its sentence of
+-- document 01 ("What demand 3 compares") beside it. Assumes nothing.
+use mathlib.Core.Path.{_≡_}
+use mathlib.Core.List.{List, [], _∷_}
+use Prim.Native.Nat.{ℕ, _-_, _%_, _<_}
+use lib.Ieee.{Float}
+use lib.ListN.{length, getD, take}
+use Rattle.refusals.specs.Outcome.{Outcome, accepted, Done}
+use Rattle.refusals.specs.declared.Frame.{Frame}
+use Rattle.points.specs.declared.Quad.{Quad}
+use Rattle.points.specs.Turned.{turnedLeft}
+use Rattle.tables.specs.declared.Family.{Family}
+use Rattle.tag_families.specs.Families.{familyOf, codesOf}
+use Rattle.word.specs.Word.{differing}
+use Rattle.painter.specs.declared.Print.{Print}
+use Rattle.reader.specs.Reading.{Tag}
+use Rattle.listing.specs.Listing.{Listing, quadAt, numbersOf, rowAt, cornersAt}
+use Rattle.muosleap.specs.Likeness.{checkLikeness}
+use Rattle.muosleap.specs.PaintTag.{Painting, paintTag, paintTagIn}
+use Rattle.muosleap.specs.Quad.{decodeQuad, decodeQuadIn}
+use Rattle.muosleap.specs.Quads.{decodeQuads, decodeQuadsIn}
+use Rattle.paper.specs.Starts.{fromStart}
+
+-- "every table that passes the likeness check": the entry's answer is that it passes
+abbrev pub Passes : Family → List ℕ → Type 0
+Passes family codes = checkLikeness family codes ≡ accepted (record {})
+
+-- ---- a painted tag
+
+-- what is painted, and on what
+pub record Painted (family : Family) (codes : List ℕ) (id word : ℕ) (plane : List ℕ) (frame : Frame) (print : Print) (quad : Quad) (shown : List ℕ) : Type 0 where
+  pub passes : Passes family codes
+  -- "Take a code of the table ..: .. the code's position from 0 is the tag's own number."
+  pub known : id < length codes
+  -- "a painting word that differs from it in fewer bits than the match threshold: these bits are the misprinted modules"
+  pub misprinted : differing word (getD codes id 0) < family .«hamming_distance»
+  -- "The word is painted with the table's edge and border.": on any plane and with any print that the painter takes. It answers with the
+  -- quad, and leaves the plane as shown
+  pub painted : paintTag plane frame (family .edge) (family .border) word print ≡ record { answer = accepted quad; plane = shown }
+
+-- "Print order of the answer is fourth, third, second, first corner."
+abbrev pub printOrder : Quad → Quad
+printOrder q = record { q0 = q .q3; q1 = q .q2; q2 = q .q1; q3 = q .q0 }
+
+-- "turn (4 − s) modulo 4"
+abbrev pub ownTurn : ℕ → ℕ
+ownTurn s = (4 - s) % 4
+
+-- "no refusal but these: id the own number, turn (4 − s) modulo 4, corners in print order"
+abbrev pub ownTag : ℕ → Quad → ℕ → Tag
+ownTag id quad s = record { id = id; turn = ownTurn s; corners = printOrder quad }
+
+-- "Start s of the painter's quad is then read with the same table and threshold, on the plane as the painter left it."
+pub record ReadsOwn (family : Family) (codes : List ℕ) (id : ℕ) (frame : Frame) (quad : Quad) (shown : List ℕ) (s : ℕ) : Type 0 where
+  -- "Both the quad reader's answer ..
+  pub alone : decodeQuad shown frame family codes (turnedLeft s quad) ≡ accepted (ownTag id quad s)
+  -- .. and this start's row and corner numbers, in every accepted list reading of this plane that holds it": at whatever position i and beside
+  -- whatever other quads
+  pub listed : (quads : List Float) (rows : List ℕ) (corners : List Float) (n i : ℕ) → let result = decodeQuads shown frame family codes quads rows corners in
+      result .answer ≡ accepted n → i < n → quadAt quads i ≡ turnedLeft s quad
+      → (rowAt (result .rows) i ≡ 0 ∷ id ∷ ownTurn s ∷ []) × (cornersAt (result .corners) i ≡ numbersOf (printOrder quad))
+
+-- ---- any quad on any plane
+
+-- two quads that differ only in their starts
+pub record OtherStart (a b : Quad) : Type 0 where
+  pub start : ℕ
+  pub start-lt : start < 4
+  pub turned : b ≡ turnedLeft start a
+
+-- ---- the whole demand
+
+pub record Demand3 : Type 0 where
+  -- "a tag painted by 01's painter, wherever it fits, in any cell size, shades and quarter turn that the painter takes, with fewer misprinted
+  -- modules than the table's threshold, whichever they are, is read under its own number with its corners in print order, from whichever corner
+  -- the clockwise quad starts"
+  pub painted-tags : (family : Family) (codes : List ℕ) (id word : ℕ) (plane : List ℕ) (frame : Frame) (print : Print) (quad : Quad) (shown : List ℕ)
+      → Painted family codes id word plane frame print quad shown → (s : ℕ) → s < 4 → ReadsOwn family codes id frame quad shown s
+  -- "On any plane, with any table that passes the likeness check and any eight numbers: if one start is refused, all four are, under one number;
+  -- else all give one id and the same corners, and start s the turn of start 0 less s, modulo 4."
+  pub any-quad : (plane : List ℕ) (frame : Frame) (family : Family) (codes : List ℕ) (quad : Quad) → Passes family codes → (s : ℕ) → s < 4
+      → decodeQuad plane frame family codes (turnedLeft s quad) ≡ fromStart s (decodeQuad plane frame family codes quad)
+  -- "Two accepted list readings of one plane and one such table whose quads differ only in their starts agree in all rows and corner numbers but
+  -- for the turns."
+  pub any-lists : (plane : List ℕ) (frame : Frame) (family : Family) (codes : List ℕ) → Passes family codes
+      → (quads quads′ : List Float) (rows rows′ : List ℕ) (corners corners′ : List Float) (n n′ : ℕ)
+      → let result = decodeQuads plane frame family codes quads rows corners in
+      let result′ = decodeQuads plane frame family codes quads′ rows′ corners′ in
+      result .answer ≡ accepted n → result′ .answer ≡ accepted n′ → n ≡ n′
+      → ((i : ℕ) → i < n → OtherStart (quadAt quads i) (quadAt quads′ i))
+      → (i : ℕ) → i < n → (take 2 (rowAt (result .rows) i) ≡ take 2 (rowAt (result′ .rows) i)) × (cornersAt (result .corners) i ≡ cornersAt (result′ .corners) i)
+  -- the entries by family number are those with the family's table
+  pub by-number : (number : ℕ) → number < 5 → (plane : List ℕ) (frame : Frame)
+      → ((quad : Quad) → decodeQuadIn plane frame number quad ≡ decodeQuad plane frame (familyOf number) (codesOf number) quad)
+      × ((quads : List Float) (rows : List ℕ) (corners : List Float) → decodeQuadsIn plane frame number quads rows corners ≡ decodeQuads plane frame (familyOf number) (codesOf number) quads rows corners)
+      × ((word : ℕ) (print : Print) → paintTagIn plane frame number word print ≡ paintTag plane frame (familyOf number .edge) (familyOf number .border) word print)

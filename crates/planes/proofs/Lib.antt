@@ -1,0 +1,10 @@
+pub mod Part
+pub mod Rows
+pub mod Taps
+pub mod Shift
+pub mod Sums
+pub mod Lines
+pub mod Border
+pub mod Order
+pub mod Equal
+pub mod Lowest

@@ -1,0 +1,4 @@
+pub mod Blur
+pub mod Response
+pub mod Threshold
+pub mod Steps
