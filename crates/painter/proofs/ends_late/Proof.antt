@@ -1,4 +1,4 @@
--- Assumes nothing.
+-- The difference is compared, so that no sum can be too large. Assumes nothing.
 use mathlib.Core.Path.{_≡_, refl, sym}
 use mathlib.Core.Bool.{Bool, true, false}
 use Prim.Native.Nat.{ℕ, _+_, _-_, _<_}
