@@ -2,7 +2,7 @@
 -- document 01 ("What demand 3 compares") beside it. Assumes nothing.
 use mathlib.Core.Path.{_≡_}
 use mathlib.Core.List.{List, [], _∷_}
-use Prim.Native.Nat.{ℕ, suc, _-_, _%_, _<_}
+use Prim.Native.Nat.{ℕ, _-_, _%_, _<_}
 use lib.Ieee.{Float}
 use lib.ListN.{length, getD, take}
 use Rattle.refusals.specs.Outcome.{Outcome, accepted, Done}
