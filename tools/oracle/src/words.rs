@@ -1,0 +1,299 @@
+//! Vectors of `rotate_bits` and `best_tag`.
+
+use crate::limits::{self, Answer};
+use crate::original::detector::{TagDetector, best_tag, turned};
+use crate::original::tag_families::TagFamily;
+use crate::out::{Digest, File, Frame, Numbers, SEED};
+
+pub fn files() -> Vec<File> {
+    vec![
+        rotate_bits(),
+        family("vectors_words/data/t16h5", 0, TagFamily::T16H5, SEED + 165, 1),
+        family("vectors_words/data/t25h7", 1, TagFamily::T25H7, SEED + 257, 3),
+        family("vectors_words/data/t25h9", 2, TagFamily::T25H9, SEED + 259, 1),
+        family("vectors_words/data/t36h11", 3, TagFamily::T36H11, SEED + 3611, 3),
+        family("vectors_words/data/t36h11b1", 4, TagFamily::T36H11B1, SEED + 36111, 30),
+        lent(),
+        searches_of_limits(),
+        likeness_of_limits(),
+    ]
+}
+
+/// The number with ones at the edge² places of the square.
+fn square(edge: u8) -> u64 {
+    u64::MAX >> (64 - edge as u32 * edge as u32)
+}
+
+fn rotate_bits() -> File {
+    let mut file = File::new("vectors_words/data/rotate_bits");
+    let mut numbers = Numbers::from(SEED + 8);
+    let mut push = |edge: u8, bits: u64, refusal: u8, word: u64| {
+        file.push(Frame::new().u8(3).u8(edge).u64(bits).u8(refusal).u64(word));
+    };
+    for edge in 1..=8 {
+        let mut words = vec![0, u64::MAX, square(edge), !square(edge)];
+        words.extend((0..64).map(|place| 1u64 << place));
+        words.extend((0..40).map(|_| numbers.next() & square(edge)));
+        words.extend((0..40).map(|_| numbers.next()));
+        for bits in words {
+            push(edge, bits, 0, turned(bits, edge));
+        }
+    }
+    for row in limits::turns() {
+        match row.answer {
+            Answer::Word(word) => {
+                assert_eq!(word, turned(row.bits, row.edge), "limits.txt and the original differ");
+                push(row.edge, row.bits, 0, word)
+            }
+            Answer::Refused(number) => push(row.edge, row.bits, number, 0),
+            Answer::Tag(..) => panic!("a turn answers a word"),
+        }
+    }
+    file
+}
+
+/// The words of a digest.
+#[derive(Clone, Copy)]
+enum Kind {
+    /// The numbers from 0 on.
+    All,
+    /// Each code of the table turned 0, 1, 2 and 3 times.
+    Exact,
+    /// Damaged codes in any turn.
+    Damaged,
+}
+
+/// A table and the words searched in it.
+struct Table<'a> {
+    file: &'a mut File,
+    edge: u8,
+    threshold: u8,
+    codes: Vec<u64>,
+}
+
+impl Table<'_> {
+    /// Begins a table: the searches of the frames that follow are in it.
+    fn lend(file: &mut File, edge: u8, threshold: u8, codes: Vec<u64>) -> Table<'_> {
+        file.push(Frame::new().u8(0).u8(edge).u8(threshold).u64s(&codes));
+        Table { file, edge, threshold, codes }
+    }
+
+    fn expect(&mut self, bits: u64, refusal: u8, id: usize, turn: u8) {
+        self.file.push(Frame::new().u8(1).u64(bits).u8(refusal).u16(id).u8(turn));
+    }
+
+    /// What the original says: a refusal number, id and turn.
+    fn found(&self, bits: u64) -> (u8, usize, u8) {
+        match best_tag(bits, self.threshold, &self.codes, self.edge) {
+            Some((id, turn)) => (0, id, turn as u8),
+            None => (13, 0, 0),
+        }
+    }
+
+    fn search(&mut self, bits: u64) {
+        let (refusal, id, turn) = self.found(bits);
+        self.expect(bits, refusal, id, turn);
+    }
+
+    fn turned(&self, code: u64, turns: usize) -> u64 {
+        (0..turns).fold(code, |word, _| turned(word, self.edge))
+    }
+
+    /// The code with `flips` other bits in the square.
+    fn flipped(&self, code: u64, flips: usize, numbers: &mut Numbers) -> u64 {
+        let places = self.edge as usize * self.edge as usize;
+        let mut mask = 0u64;
+        while (mask.count_ones() as usize) < flips.min(places) {
+            mask |= 1 << numbers.below(places);
+        }
+        code ^ mask
+    }
+
+    /// A frame that asks for a digest of the answers to `count` words of a kind.
+    fn digest(&mut self, kind: Kind, seed: u64, count: usize) {
+        let mut digest = Digest::new();
+        let mut numbers = Numbers::from(seed);
+        for k in 0..count {
+            let bits = match kind {
+                Kind::All => k as u64,
+                Kind::Exact => self.turned(self.codes[k / 4], k % 4),
+                Kind::Damaged => self.damaged(&mut numbers),
+            };
+            let (refusal, id, turn) = self.found(bits);
+            digest.u8(refusal);
+            digest.u16(id);
+            digest.u8(turn);
+        }
+        self.file.push(Frame::new().u8(2).u8(kind as u8).u64(seed).u32(count as u32).u64(digest.0));
+    }
+
+    /// A code of the table, turned 0 to 3 times, with about one bit in sixteen flipped, also above the square.
+    fn damaged(&self, numbers: &mut Numbers) -> u64 {
+        let code = self.codes[numbers.below(self.codes.len())];
+        let turns = numbers.below(4);
+        let mask = numbers.next() & numbers.next() & numbers.next() & numbers.next();
+        self.turned(code, turns) ^ mask
+    }
+}
+
+/// A family's table with digests and, for one code in `every`, rows: the code at each turn, near misses about the threshold, words
+/// with bits above the square, words of no code.
+fn family(path: &'static str, number: u8, family: TagFamily, seed: u64, every: usize) -> File {
+    let mut file = File::new(path);
+    let mut numbers = Numbers::from(seed);
+    let detector = TagDetector::new(&family, None);
+    let threshold = detector.hamming_distance();
+    let mut table = Table::lend(&mut file, detector.edge(), threshold, detector.code_list().to_vec());
+    table.file.push(Frame::new().u8(4).u8(number).u8(detector.border()));
+    for code in table.codes.clone().into_iter().step_by(every) {
+        for turns in 0..4 {
+            table.search(table.turned(code, turns));
+        }
+        for flips in [threshold - 1, threshold, threshold + 1] {
+            let flipped = table.flipped(code, flips as usize, &mut numbers);
+            table.search(table.turned(flipped, numbers.below(4)));
+        }
+        let above = numbers.next() & !square(table.edge);
+        table.search(code | above);
+        table.search(table.turned(code, 1 + numbers.below(3)) | above);
+        table.search(numbers.next() & square(table.edge));
+        table.search(numbers.next());
+    }
+    for bits in [0, u64::MAX, square(table.edge)] {
+        table.search(bits);
+    }
+    table.digest(Kind::Exact, seed, 4 * table.codes.len());
+    table.digest(Kind::Damaged, seed, 20_000);
+    if table.edge == 4 {
+        table.digest(Kind::All, seed, 65_536);
+    }
+    for t in 1..=12 {
+        let refusal = if is_unlike(table.edge, t, &table.codes) { 0 } else { 7 };
+        table.file.push(likeness(t, detector.border(), refusal));
+    }
+    file
+}
+
+/// The likeness check in document 01's words. The original has none.
+fn is_unlike(edge: u8, threshold: u8, codes: &[u64]) -> bool {
+    let t = threshold as u32;
+    let places = edge as u32 * edge as u32;
+    let turns = |code: u64| {
+        let once = turned(code, edge);
+        let twice = turned(once, edge);
+        [code, once, twice, turned(twice, edge)]
+    };
+    let differ = |a: u64, b: u64| (a ^ b).count_ones() > 2 * t - 2;
+    let alone = codes.iter().all(|&code| {
+        let all = turns(code);
+        let apart = (0..4).all(|i| (0..i).all(|j| differ(all[i], all[j])));
+        code.count_ones() >= t && places - code.count_ones() >= t && apart
+    });
+    let apart = |i: usize, j: usize| turns(codes[i]).iter().all(|&a| turns(codes[j]).iter().all(|&b| differ(a, b)));
+    alone && (0..codes.len()).all(|i| (0..i).all(|j| apart(i, j)))
+}
+
+/// A frame that asks the likeness check of the table with a threshold and a border.
+fn likeness(threshold: u8, border: u8, refusal: u8) -> Frame {
+    Frame::new().u8(5).u8(threshold).u8(border).u8(refusal)
+}
+
+/// The limits of document 01 for the likeness check.
+fn likeness_of_limits() -> File {
+    let mut file = File::new("vectors_words/data/likeness");
+    for row in limits::likeness() {
+        let known = row.refusal == 6 || is_unlike(row.edge, row.threshold, &row.codes) == (row.refusal == 0);
+        assert!(known, "limits.txt and the check differ");
+        Table::lend(&mut file, row.edge, row.threshold, row.codes);
+        file.push(likeness(row.threshold, row.border, row.refusal));
+    }
+    file
+}
+
+/// Lent tables: ties, one code and 1,024, every edge and thresholds to 64.
+fn lent() -> File {
+    let mut file = File::new("vectors_words/data/lent");
+    let mut numbers = Numbers::from(SEED + 1_024);
+    ties(&mut file);
+    for edge in 1..=8 {
+        for threshold in [1, 2, 3, 5, 8, 16, 32, 63, 64] {
+            small_table(&mut file, edge, threshold, &mut numbers);
+        }
+    }
+    for (edge, threshold) in [(6, 3), (8, 12)] {
+        large_table(&mut file, edge, threshold, &mut numbers);
+    }
+    file
+}
+
+/// The limits of document 01 for the search.
+fn searches_of_limits() -> File {
+    let mut file = File::new("vectors_words/data/limits");
+    for row in limits::searches() {
+        let mut table = Table::lend(&mut file, row.edge, row.threshold, row.codes);
+        let (refusal, id, turn) = match row.answer {
+            Answer::Tag(id, turn) => (0, id, turn),
+            Answer::Refused(number) => (number, 0, 0),
+            Answer::Word(_) => panic!("a search answers a tag"),
+        };
+        assert!(refusal == 6 || table.found(row.bits) == (refusal, id, turn), "limits.txt and the original differ");
+        table.expect(row.bits, refusal, id, turn);
+    }
+    file
+}
+
+/// Equal codes, codes equally far from the word, and codes that are turns of each other.
+fn ties(file: &mut File) {
+    let code = 0x231b;
+    let turns: Vec<u64> = (0..4).map(|k| (0..k).fold(code, |word, _| turned(word, 4))).collect();
+    let tables = [
+        (2, vec![code, code]),
+        (2, vec![0xffff, code, code, 0]),
+        (3, vec![code ^ 1, code ^ 2, code ^ 4, code ^ 8]),
+        (5, vec![code ^ 3, code ^ 0x18, code ^ 1, code ^ 0x8000]),
+        (2, turns.clone()),
+        (2, turns.iter().rev().copied().collect()),
+        (4, turns.iter().map(|turn| turn ^ 0x100).collect()),
+        (1, vec![0, 0xffff]),
+        (17, vec![0, 0xffff]),
+        (9, vec![0, 0xffff, 0xff, 0xff00]),
+    ];
+    for (threshold, codes) in tables {
+        let mut table = Table::lend(file, 4, threshold, codes);
+        for &turn in &turns {
+            table.search(turn);
+            table.search(turn ^ 1);
+            table.search(turn | 0x4_0000);
+        }
+        for bits in [0, 0xff, 0xf0f0, 0xffff, 0x1_ffff] {
+            table.search(bits);
+        }
+    }
+}
+
+fn small_table(file: &mut File, edge: u8, threshold: u8, numbers: &mut Numbers) {
+    let count = 1 + numbers.below(6);
+    let codes: Vec<u64> = (0..count).map(|_| numbers.next() & square(edge)).collect();
+    let first = codes[0];
+    let mut table = Table::lend(file, edge, threshold, codes);
+    for flips in [threshold - 1, threshold] {
+        let flipped = table.flipped(first, flips as usize, numbers);
+        table.search(table.turned(flipped, numbers.below(4)));
+    }
+    table.search(!first);
+    table.search(numbers.next() & square(edge));
+    table.search(numbers.next());
+    table.digest(Kind::Damaged, numbers.next(), 500);
+}
+
+fn large_table(file: &mut File, edge: u8, threshold: u8, numbers: &mut Numbers) {
+    let codes: Vec<u64> = (0..1_024).map(|_| numbers.next() & square(edge)).collect();
+    let mut table = Table::lend(file, edge, threshold, codes);
+    for id in [0, 1, 511, 512, 1_022, 1_023] {
+        for flips in [0, threshold - 1, threshold] {
+            let flipped = table.flipped(table.codes[id], flips as usize, numbers);
+            table.search(table.turned(flipped, numbers.below(4)));
+        }
+    }
+    table.digest(Kind::Damaged, numbers.next(), 2_000);
+}
