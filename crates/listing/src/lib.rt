@@ -57,7 +57,7 @@ fn point_at(quads: &[f32], at: usize) -> Point
 }
 
 // Quad q of a list.
-fn quad_at(quads: &[f32], q: usize) -> Quad
+pub fn quad_at(quads: &[f32], q: usize) -> Quad
     requires { ⌜ quadSize * q + quadSize ≤ length (now quads) ⌝ }
     ensures { λ r. ⌜ r ≡ quadAt (now (quads .entry)) q ⌝ }
 {
@@ -103,7 +103,7 @@ fn put_point(corners: &mut [f32], at: usize, p: Point)
 }
 
 // A quad's eight numbers.
-fn put_quad(corners: &mut [f32], q: usize, quad: Quad)
+pub fn put_quad(corners: &mut [f32], q: usize, quad: Quad)
     requires { ⌜ quadSize * q + quadSize ≤ length (now corners) ⌝ }
     ensures { λ _. ⌜ now (corners .exit) ≡ sets (now (corners .entry)) (quadSize * q) (numbersOf quad) ⌝ }
 {

@@ -1,5 +1,8 @@
 // The public entries for C and Rust. Each answers the refusal's number, 0 where accepted, and writes its outputs only where
 // accepted. The header is include/muosleap.h.
+// Tags: codes, levels, quads, lists of quads, the painter.
+pub mod tags;
+
 use muosleap::detector::Turned;
 use search::Found;
 ghost use mathlib.Core.Path.{_≡_};

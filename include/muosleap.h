@@ -1,0 +1,188 @@
+/*
+ * Muosleap: from a picture to clusters, and from a quad to a tag. Link with libmuosleap_c.a.
+ *
+ * What each function answers
+ *   0 where the call is accepted, and else the number of a refusal. A function tests its refusals in the order in which its
+ *   comment names them and answers the first that holds. A refused call leaves every buffer as it was, the worklist too.
+ *
+ * What the caller owes
+ *   - Every pointer is aligned for its type and not null, also where its count is 0.
+ *   - Behind a pointer with a count lie that many elements, and behind one without a count the one element or the eight or
+ *     two numbers that its comment names. All of them are initialized, those of outputs too.
+ *   - No buffer that a call may write overlaps another buffer of the same call.
+ *   - No other thread writes a lent buffer, or reads one that the call may write, while the call runs.
+ *   Nothing else is demanded: every number is taken, and refused where it does not fit.
+ *
+ * Buffers
+ *   - A pointer and the count of elements behind it stand next to each other. A pointer to const is only read.
+ *   - A plane is width * height samples, row by row; y grows downward. The counts of planes are counts of samples.
+ *   - A quad is eight numbers: x0 y0 x1 y1 x2 y2 x3 y3. So are the corners of a tag.
+ *   - An output that is longer than what is written keeps the rest of its elements.
+ *   - A word of edge * edge bits is a square of modules; its highest bit is the first module.
+ *
+ * Families
+ *   By number: 0 T16H5, 1 T25H7, 2 T25H9, 3 T36H11, 4 T36H11B1. Else a table is lent: edge (modules a side inside the border),
+ *   border (modules), match threshold (`hamming_distance`) and the codes.
+ *
+ * Refusals
+ *    1  a plane side is 0 or above 4,096, or a plane's length is not width * height
+ *    2  weights not an odd number from 1 to 15, or one outside 0.0 to 1.0 or NaN
+ *    3  a sample to be blurred outside 0.0 to 1.0, a sample for the response, the threshold or the clusters of magnitude above
+ *       65,536, or NaN in any of them
+ *    4  threshold infinite or NaN
+ *    5  worklist shorter than 3 * width * height + 1
+ *    6  table with edge outside 1..8, border outside 1..4, no code or above 1,024 codes, match threshold outside 1..64, or a
+ *       code of 2^(edge * edge) or more; or no such family
+ *    7  the table fails the likeness check
+ *    8  a corner coordinate is NaN or of magnitude 16,384 or more
+ *    9  a corner rounds outside the picture
+ *   10  a sample rounds outside the picture
+ *   11  greatest minus least level below 50
+ *   12  more unsure modules than allowed
+ *   13  no code near in four turns
+ *   14  painting word of 2^(edge * edge) or more, cell outside 1..64 pixels, turn above 3, light less than 50 above dark, or a tag
+ *       that does not end at least one pixel before the right and lower edges
+ *   15  no levels, or more than 64; for a centre, a sum or count of 2^24 or more, or a count of 0
+ *   16  quad list not a multiple of 8 numbers or above 1,024 quads, or an output shorter than three numbers and eight corner
+ *       numbers a quad
+ */
+#ifndef MUOSLEAP_H
+#define MUOSLEAP_H
+
+#include <stddef.h>
+#include <stdint.h>
+
+#ifdef __cplusplus
+extern "C" {
+#endif
+
+/*
+ * One turn of a word of edge * edge bits: place i * edge + j takes the bit of place j * edge + edge - 1 - i.
+ * Refusals: 6, for the edge alone.
+ * word: the turned word.
+ */
+uint32_t muosleap_rotate_bits(uint64_t bits, uint8_t edge, uint64_t *word);
+
+/*
+ * The code that a word shows, and the first turn, 0 to 3, at which it differs from a code in fewer bits than the match threshold.
+ * Refusals: 6 (the border is not lent and not tested), 13.
+ * id: the code's position from 0. turn: the turn.
+ */
+uint32_t muosleap_best_tag(uint64_t bits, uint8_t hamming_distance, const uint64_t *codes, size_t codes_count, uint8_t edge,
+                           size_t *id, uint8_t *turn);
+
+/*
+ * Whether a table can be read one way only: with the match threshold t, each code has at least t ones and t zeros in its square,
+ * and any two codes in any turns, or one code in two turns, differ in at least 2 * t - 1 bits. The readers do not test this.
+ * Refusals: 6, 7.
+ */
+uint32_t muosleap_check_likeness(uint8_t edge, uint8_t border, uint8_t hamming_distance, const uint64_t *codes,
+                                 size_t codes_count);
+
+/*
+ * Levels to bits: 1 for a level above the middle of least and greatest; the first level is the highest bit. A level nearer to the
+ * middle than the band is unsure, and at most `allowed` of them may be.
+ * Refusals: 15, 11, 12.
+ * word: the bits.
+ */
+uint32_t muosleap_bit_code(const uint8_t *levels, size_t levels_count, uint8_t band, uint32_t allowed, uint64_t *word);
+
+/*
+ * The tag at a quad of an 8-bit plane, read with a lent table.
+ * Refusals: 1, 6, 8, 9, 10, 11, 12, 13.
+ * quad: eight numbers. id, turn: as of muosleap_best_tag. corners: eight numbers, the quad turned left by the turn, then reversed.
+ */
+uint32_t muosleap_try_decode_quad(const uint8_t *plane, size_t plane_count, size_t width, size_t height, uint8_t edge,
+                                  uint8_t border, uint8_t hamming_distance, const uint64_t *codes, size_t codes_count,
+                                  const float quad[8], size_t *id, uint8_t *turn, float corners[8]);
+
+/*
+ * The same by family number.
+ * Refusals: 1, 6 (no such family), 8, 9, 10, 11, 12, 13.
+ */
+uint32_t muosleap_try_decode_quad_in(const uint8_t *plane, size_t plane_count, size_t width, size_t height, uint8_t family,
+                                     const float quad[8], size_t *id, uint8_t *turn, float corners[8]);
+
+/*
+ * Each quad of a list read by itself with a lent table.
+ * Refusals: 1, 6, 16. The refusals of a single quad, 8 to 13, stand in its row, and the call is accepted.
+ * quads: eight numbers a quad. rows: three numbers a quad, which are its refusal or 0, its id and its turn. corners: eight numbers a
+ * quad. The id, the turn and the corners of a refused quad are 0.
+ */
+uint32_t muosleap_try_decode_quads(const uint8_t *plane, size_t plane_count, size_t width, size_t height, uint8_t edge,
+                                   uint8_t border, uint8_t hamming_distance, const uint64_t *codes, size_t codes_count,
+                                   const float *quads, size_t quads_count, uint64_t *rows, size_t rows_count, float *corners,
+                                   size_t corners_count);
+
+/*
+ * The same by family number.
+ * Refusals: 1, 6 (no such family), 16.
+ */
+uint32_t muosleap_try_decode_quads_in(const uint8_t *plane, size_t plane_count, size_t width, size_t height, uint8_t family,
+                                      const float *quads, size_t quads_count, uint64_t *rows, size_t rows_count, float *corners,
+                                      size_t corners_count);
+
+/*
+ * Fills an 8-bit plane with light and draws one tag into it, its upper left pixel at (x, y), `cell` pixels a module: dark borders, and
+ * a light module for each bit that is 1. At turn 0, 1, 2, 3 the print's first corner is upper left, upper right, lower right, lower left.
+ * Refusals: 1, 6 (edge and border), 14.
+ * plane: the picture. quad: eight numbers, the tag's outer corners, clockwise from the print's first.
+ */
+uint32_t muosleap_paint_tag(uint8_t *plane, size_t plane_count, size_t width, size_t height, uint8_t edge, uint8_t border,
+                            uint64_t word, size_t x, size_t y, size_t cell, uint8_t turn, uint8_t light, uint8_t dark,
+                            float quad[8]);
+
+/*
+ * The same with the edge and the border of a family.
+ * Refusals: 1, 6 (no such family), 14.
+ */
+uint32_t muosleap_paint_tag_in(uint8_t *plane, size_t plane_count, size_t width, size_t height, uint8_t family, uint64_t word,
+                               size_t x, size_t y, size_t cell, uint8_t turn, uint8_t light, uint8_t dark, float quad[8]);
+
+/*
+ * A blur by lent weights, across into `temp` and then down into `out`, edges repeated.
+ * Refusals: 1 (any of the three planes), 2, 3.
+ * img: the plane to be blurred. temp, out: planes of the same sides, both written whole.
+ */
+uint32_t muosleap_gaussian_blur_f32(const float *img, size_t img_count, size_t width, size_t height, const float *weights,
+                                    size_t weights_count, float *temp, size_t temp_count, float *out, size_t out_count);
+
+/*
+ * The response of each sample, low at saddles; 0 at the border.
+ * Refusals: 1 (either plane), 3.
+ * out: a plane of the same sides, written whole.
+ */
+uint32_t muosleap_hessian_response(const float *img, size_t img_count, size_t width, size_t height, float *out, size_t out_count);
+
+/*
+ * The lowest response times 0.05; a zero is +0.0.
+ * Refusals: 1, 3.
+ * threshold: the product.
+ */
+uint32_t muosleap_response_threshold(const float *response, size_t response_count, size_t width, size_t height,
+                                     float *threshold);
+
+/*
+ * The clusters of a plane: connected sets, by four neighbours, of samples below the threshold, with at least one sample off the border,
+ * in the order of their first such sample, row by row.
+ * Refusals: 1, 3, 4, 5.
+ * h_mat: the plane; clustered samples hold the largest finite float afterwards. worklist: at least 3 * width * height + 1 numbers for
+ * the call's own use; nothing is promised of what it holds afterwards. rows: three numbers a cluster, which are sum of x, sum of y and
+ * count; as many whole rows as fit are written. total: how many clusters there are, also those whose rows did not fit.
+ */
+uint32_t muosleap_init_saddle_clusters(float *h_mat, size_t h_mat_count, size_t width, size_t height, float threshold,
+                                       uint32_t *worklist, size_t worklist_count, uint64_t *rows, size_t rows_count,
+                                       size_t *total);
+
+/*
+ * The centre of a cluster from its row: each sum divided by the count.
+ * Refusals: 15.
+ * center: two numbers, x and y.
+ */
+uint32_t muosleap_cluster_center(uint64_t sum_x, uint64_t sum_y, uint64_t count, float center[2]);
+
+#ifdef __cplusplus
+}
+#endif
+
+#endif
