@@ -1,5 +1,7 @@
 // The public entries for C and Rust. Each answers the refusal's number, 0 where accepted, and writes its outputs only where
 // accepted. The header is include/muosleap.h.
+pub mod picture;
+
 use muosleap::detector::Turned;
 use search::Found;
 ghost use mathlib.Core.Path.{_≡_};
