@@ -24,7 +24,10 @@ pub extern "C" fn muosleap_gaussian_blur_f32(
 ) -> u32
     ensures { λ r. ⌜ Blurred (gaussianBlur (now (img .entry)) (sides width height) (now (weights .entry)) (now (temp .entry)) (now (out .entry))) r (now (temp .exit)) (now (out .exit)) ⌝ }
 {
-    let shape = Shape { width: width, height: height };
+    let shape = Shape {
+        width: width,
+        height: height,
+    };
     match muosleap::image_util::gaussian_blur_f32(img, shape, weights, temp, out) {
         Filled::Done => 0,
         Filled::Refused(n) => n as u32,
@@ -32,10 +35,18 @@ pub extern "C" fn muosleap_gaussian_blur_f32(
 }
 
 #[no_mangle]
-pub extern "C" fn muosleap_hessian_response(img: &[f32], width: usize, height: usize, out: &mut [f32]) -> u32
+pub extern "C" fn muosleap_hessian_response(
+    img: &[f32],
+    width: usize,
+    height: usize,
+    out: &mut [f32],
+) -> u32
     ensures { λ r. ⌜ Responded (hessianResponse (now (img .entry)) (sides width height) (now (out .entry))) r (now (out .exit)) ⌝ }
 {
-    let shape = Shape { width: width, height: height };
+    let shape = Shape {
+        width: width,
+        height: height,
+    };
     match muosleap::image_util::hessian_response(img, shape, out) {
         Filled::Done => 0,
         Filled::Refused(n) => n as u32,
@@ -51,7 +62,10 @@ pub extern "C" fn muosleap_response_threshold(
 ) -> u32
     ensures { λ r. ⌜ (r ≡ number (responseThreshold (now (response .entry)) (sides width height))) × (now (threshold .exit) ≡ valueOr (now (threshold .entry)) (responseThreshold (now (response .entry)) (sides width height))) ⌝ }
 {
-    let shape = Shape { width: width, height: height };
+    let shape = Shape {
+        width: width,
+        height: height,
+    };
     match muosleap::image_util::response_threshold(response, shape) {
         Threshold::At(t) => {
             *threshold = t;
@@ -73,7 +87,10 @@ pub extern "C" fn muosleap_init_saddle_clusters(
 ) -> u32
     ensures { λ r. ⌜ Clustered (initSaddleClusters (now («h_mat» .entry)) (sides width height) threshold (length (now (worklist .entry))) (now (rows .entry))) (now (worklist .entry)) (now (total .entry)) r (now («h_mat» .exit)) (now (worklist .exit)) (now (rows .exit)) (now (total .exit)) ⌝ }
 {
-    let shape = Shape { width: width, height: height };
+    let shape = Shape {
+        width: width,
+        height: height,
+    };
     match muosleap::saddles::init_saddle_clusters(h_mat, shape, threshold, worklist, rows) {
         Clusters::Total(n) => {
             *total = n;
@@ -84,7 +101,12 @@ pub extern "C" fn muosleap_init_saddle_clusters(
 }
 
 #[no_mangle]
-pub extern "C" fn muosleap_cluster_center(sum_x: u64, sum_y: u64, count: u64, center: &mut [f32; 2]) -> u32
+pub extern "C" fn muosleap_cluster_center(
+    sum_x: u64,
+    sum_y: u64,
+    count: u64,
+    center: &mut [f32; 2],
+) -> u32
     ensures { λ r. ⌜ (r ≡ number (clusterCenter «sum_x» «sum_y» count)) × (now (center .exit) ≡ centerOr (now (center .entry)) (clusterCenter «sum_x» «sum_y» count)) ⌝ }
 {
     match muosleap::saddles::cluster_center(sum_x, sum_y, count) {

@@ -22,8 +22,8 @@ cast-result c = search needs
 
 returns : tie.Need-returns
 returns c =
-    let k = c .before .before .before in
-    let e = sym (k .cluster-center .ensures) ∙ ap paperCenter (c .before .p .given .1) in
+    let k = c .before .before .before .before in
+    let e = sym (k .cluster-center .ensures) ∙ ap paperCenter (c .before .before .p .given .1) in
     (sym (ap number e), sym (ap (centerOr (now (k .before .args .center))) e))
 
 returns-2 : tie.Need-returns-2
