@@ -1,0 +1,44 @@
+-- The entry's outcome, taken apart. Assumes nothing.
+use mathlib.Core.Path.{sym, ap, _∙_}
+use denote.Ref.{now}
+use Rattle.refusals.specs.Outcome.{number}
+use Rattle.muosleap.specs.ClusterCenter.{paperCenter}
+use Rattle.muosleap_c.specs.Picture.{centerOr}
+use borrow.Author.Needs.{needs}
+use Rattle.muosleap_c.proofs.picture.muosleap_cluster_center.Statement.{statement}
+use Rattle.muosleap_c.proofs.picture.muosleap_cluster_center.Tie as tie
+
+cluster-center-requires : tie.Need-cluster-center-requires
+cluster-center-requires c κs = search needs
+
+enum-known-p : tie.Need-enum-known-p
+enum-known-p c = search needs
+
+enum-known-n : tie.Need-enum-known-n
+enum-known-n c = search needs
+
+cast-result : tie.Need-cast-result
+cast-result c = search needs
+
+returns : tie.Need-returns
+returns c =
+    let k = c .before .before .before .before in
+    let e = sym (k .cluster-center .ensures) ∙ ap paperCenter (c .before .before .p .given .1) in
+    (sym (ap number e), sym (ap (centerOr (now (k .before .args .center))) e))
+
+returns-2 : tie.Need-returns-2
+returns-2 c =
+    let k = c .before .before .before in
+    let e = sym (k .cluster-center .ensures) ∙ ap paperCenter (c .before .n .given .1) in
+    (sym (ap number e), sym (ap (centerOr (now (k .before .args .center))) e))
+
+pub muosleap-cluster-center-spec : {M : Type 1} → statement M
+muosleap-cluster-center-spec =
+    tie.close
+    (tie.spec
+    cluster-center-requires
+    enum-known-p
+    enum-known-n
+    cast-result
+    returns
+    returns-2)

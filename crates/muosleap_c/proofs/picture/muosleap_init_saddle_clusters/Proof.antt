@@ -1,0 +1,76 @@
+-- The entry's outcome, taken apart. Assumes nothing.
+use mathlib.Core.Path.{sym, ap, subst, _∙_}
+use denote.Ref.{now}
+use Rattle.refusals.specs.Outcome.{number}
+use Rattle.muosleap.specs.SaddleClusters.{Call, paperClusters, WorklistKept}
+use Rattle.muosleap_c.specs.Kept.{valueOr}
+use borrow.Author.Needs.{needs}
+use Rattle.muosleap_c.proofs.picture.muosleap_init_saddle_clusters.Statement.{statement}
+use Rattle.muosleap_c.proofs.picture.muosleap_init_saddle_clusters.Tie as tie
+
+init-saddle-clusters-requires : tie.Need-init-saddle-clusters-requires
+init-saddle-clusters-requires c κs = search needs
+
+enum-known-n : tie.Need-enum-known-n
+enum-known-n c = search needs
+
+enum-known-n-2 : tie.Need-enum-known-n-2
+enum-known-n-2 c = search needs
+
+cast-result : tie.Need-cast-result
+cast-result c = search needs
+
+same-length : tie.Need-same-length
+same-length c = search needs
+
+same-length-2 : tie.Need-same-length-2
+same-length-2 c = search needs
+
+same-length-3 : tie.Need-same-length-3
+same-length-3 c = search needs
+
+returns : tie.Need-returns
+returns c =
+    let k = c .before .before .before .before .before .before .before .before .before in
+    let told = ap paperClusters (c .before .n .given .1) in
+    let e = k .init-saddle-clusters .ensures in
+    let a = sym told ∙ ap (λ (d : Call). d .answer) (e .0) in
+    let b = k .before .before .before .before .before .before .before .args in
+    let kept = subst (λ (d : Call). WorklistKept (d .answer) (now (b .worklist)) (k .init-saddle-clusters .last .1 .1 .1 .0)) (e .0) (e .1) in
+    (ap number a, ap (λ (d : Call). d .plane) (e .0), kept, ap (λ (d : Call). d .rows) (e .0), ap (valueOr (now (b .total))) a)
+
+same-length-4 : tie.Need-same-length-4
+same-length-4 c = search needs
+
+same-length-5 : tie.Need-same-length-5
+same-length-5 c = search needs
+
+same-length-6 : tie.Need-same-length-6
+same-length-6 c = search needs
+
+returns-2 : tie.Need-returns-2
+returns-2 c =
+    let k = c .before .before .before .before .before .before .before .before .before in
+    let told = ap paperClusters (c .before .n2 .given .1) in
+    let e = k .init-saddle-clusters .ensures in
+    let a = sym told ∙ ap (λ (d : Call). d .answer) (e .0) in
+    let b = k .before .before .before .before .before .before .before .args in
+    let kept = subst (λ (d : Call). WorklistKept (d .answer) (now (b .worklist)) (k .init-saddle-clusters .last .1 .1 .1 .0)) (e .0) (e .1) in
+    (ap number a, ap (λ (d : Call). d .plane) (e .0), kept, ap (λ (d : Call). d .rows) (e .0), ap (valueOr (now (b .total))) a)
+
+pub muosleap-init-saddle-clusters-spec : {M : Type 1} → statement M
+muosleap-init-saddle-clusters-spec =
+    tie.close
+    (tie.spec
+    init-saddle-clusters-requires
+    enum-known-n
+    enum-known-n-2
+    cast-result
+    same-length
+    same-length-2
+    same-length-3
+    returns
+    same-length-4
+    same-length-5
+    same-length-6
+    returns-2)
