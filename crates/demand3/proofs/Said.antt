@@ -1,0 +1,58 @@
+-- Demand 3 of the definitions, carried to answers that equal them. Assumes nothing.
+use mathlib.Core.Path.{_≡_, sym, ap, ap₂, _∙_}
+use mathlib.Core.List.{List}
+use Prim.Native.Nat.{ℕ, _<_}
+use native.Mathlib.Omega.{arith}
+use Rattle.refusals.specs.Outcome.{Outcome, accepted}
+use Rattle.refusals.specs.declared.Frame.{Frame}
+use Rattle.points.specs.declared.Quad.{Quad}
+use Rattle.points.specs.Turned.{turnedLeft}
+use Rattle.tables.specs.declared.Family.{Family}
+use Rattle.painter.specs.declared.Print.{Print}
+use Rattle.reader.specs.Reading.{Tag}
+use Rattle.muosleap.specs.PaintTag.{Painting, paintTag}
+use Rattle.muosleap.specs.Quad.{decodeQuad}
+use Rattle.paper.specs.Starts.{fromStart}
+use Rattle.paper.specs.Demand3.{Passes, Painted, ownTag}
+use Rattle.paper.proofs.Demand3.{demand-3}
+use Rattle.demand3.specs.Said.{readPrint, PaintedThenRead, StartsRead}
+
+-- a painting that answers and leaves what `paintTag` says, and a reading of what it left
+pub painted-then-read : (plane : List ℕ) (frame : Frame) (family : Family) (codes : List ℕ) (word : ℕ) (print : Print) (s : ℕ) (painting : Outcome Quad) (left : List ℕ) (answer : Outcome Tag)
+    → _≡_ {A = Painting} (record { answer = painting; plane = left }) (paintTag plane frame (family .edge) (family .border) word print)
+    → answer ≡ readPrint frame family codes s left painting
+    → PaintedThenRead plane frame family codes word print s answer left
+painted-then-read plane frame family codes word print s painting left answer e r =
+    record {
+      shown = ap (λ (x : Painting). x .plane) e;
+      read = r ∙ ap (readPrint frame family codes s left) (ap (λ (x : Painting). x .answer) e);
+      own = λ id quad picture h start.
+          let both : _≡_ {A = Painting} (record { answer = painting; plane = left }) (record { answer = accepted quad; plane = picture }) = e ∙ h .painted in
+          let same : left ≡ picture = ap (λ (x : Painting). x .plane) both in
+          let took : painting ≡ accepted quad = ap (λ (x : Painting). x .answer) both in (
+            r
+                ∙ ap₂ (λ (l : List ℕ) (o : Outcome Quad). readPrint frame family codes s l o) same took
+                ∙ demand-3 .painted-tags family codes id word plane frame print quad picture h s start .alone,
+            same,
+          );
+    }
+
+-- four readings, each of its start
+pub starts-read : (plane : List ℕ) (frame : Frame) (family : Family) (codes : List ℕ) (quad : Quad) (s0 s1 s2 s3 : Outcome Tag)
+    → s0 ≡ decodeQuad plane frame family codes quad
+    → s1 ≡ decodeQuad plane frame family codes (turnedLeft 1 quad)
+    → s2 ≡ decodeQuad plane frame family codes (turnedLeft 2 quad)
+    → s3 ≡ decodeQuad plane frame family codes (turnedLeft 3 quad)
+    → StartsRead plane frame family codes quad s0 s1 s2 s3
+starts-read plane frame family codes quad s0 s1 s2 s3 e0 e1 e2 e3 =
+    record {
+      first = e0;
+      second = e1;
+      third = e2;
+      fourth = e3;
+      alike = λ passes. (
+        e1 ∙ demand-3 .any-quad plane frame family codes quad passes 1 (omega arith) ∙ ap (fromStart 1) (sym e0),
+        e2 ∙ demand-3 .any-quad plane frame family codes quad passes 2 (omega arith) ∙ ap (fromStart 2) (sym e0),
+        e3 ∙ demand-3 .any-quad plane frame family codes quad passes 3 (omega arith) ∙ ap (fromStart 3) (sym e0),
+      );
+    }

@@ -1,0 +1,66 @@
+-- The painter's answer, taken apart; then `painted-then-read`. Assumes nothing.
+use mathlib.Core.Path.{sym, ap, _∙_}
+use borrow.Author.Needs.{needs}
+use Rattle.points.specs.declared.Quad.{Quad}
+use Rattle.muosleap.specs.declared.painting.Painted.{Painted}
+use Rattle.muosleap.specs.PaintTag.{paperPainted}
+use Rattle.muosleap.specs.Quad.{decodeQuad}
+use Rattle.demand3.specs.Said.{readPrint}
+use Rattle.demand3.proofs.Said.{painted-then-read}
+use Rattle.demand3.proofs.paint_then_read.Statement.{statement}
+use Rattle.demand3.proofs.paint_then_read.Tie as tie
+
+paint-tag-requires : tie.Need-paint-tag-requires
+paint-tag-requires c κs = search needs
+
+enum-known-painted : tie.Need-enum-known-painted
+enum-known-painted c = search needs
+
+enum-known-painted-2 : tie.Need-enum-known-painted-2
+enum-known-painted-2 c = search needs
+
+rotate-left-requires : tie.Need-rotate-left-requires
+rotate-left-requires c κs = search needs
+
+try-decode-quad-requires : tie.Need-try-decode-quad-requires
+try-decode-quad-requires c κs = search needs
+
+same-length : tie.Need-same-length
+same-length c = search needs
+
+returns : tie.Need-returns
+returns c =
+    let p = c .before .before .before .before .before in
+    let a = p .before .before .before .before .args in
+    let left = p .paint-tag .last .0 in
+    painted-then-read (a .plane .now) (a .frame) (a .family) (a .codes .now) (a .word) (a .print) (a .start) (paperPainted (p .paint-tag .result)) left _ (p .paint-tag .ensures)
+    (sym (ap (λ (x : Painted). readPrint (a .frame) (a .family) (a .codes .now) (a .start) left (paperPainted x)) (c .before .painted .given .1)))
+
+same-length-2 : tie.Need-same-length-2
+same-length-2 c = search needs
+
+returns-2 : tie.Need-returns-2
+returns-2 c =
+    let r = c .before in
+    let t = r .before .before .before in
+    let p = t .before .before .before .before in
+    let a = p .before .before .before .before .args in
+    let left = p .paint-tag .last .0 in
+    painted-then-read (a .plane .now) (a .frame) (a .family) (a .codes .now) (a .word) (a .print) (a .start) (paperPainted (p .paint-tag .result)) left _ (p .paint-tag .ensures)
+    (c .try-decode-quad .ensures
+    ∙ ap (λ (q : Quad). decodeQuad left (a .frame) (a .family) (a .codes .now) q) (r .rotate-left .ensures)
+    ∙ sym (ap (λ (x : Painted). readPrint (a .frame) (a .family) (a .codes .now) (a .start) left (paperPainted x)) (t .painted2 .given .1)))
+
+pub paint-then-read-spec : {M : Type 1} → statement M
+paint-then-read-spec =
+    tie.close
+    (tie.spec
+    paint-tag-requires
+    enum-known-painted
+    enum-known-painted-2
+    rotate-left-requires
+    try-decode-quad-requires
+    same-length
+    returns
+    same-length-2
+    returns-2)
