@@ -1,8 +1,8 @@
 // The public entries for C and Rust. Each answers the refusal's number, 0 where accepted, and writes its outputs only where
 // accepted. The header is include/muosleap.h.
 // Tags: codes, levels, quads, lists of quads, the painter. Picture: blur, response, threshold, clusters, centres.
-pub mod tags;
 pub mod picture;
+pub mod tags;
 
 use muosleap::detector::Turned;
 use search::Found;

@@ -1,10 +1,11 @@
 -- The examples that document 01 marks P, in one table: what the definitions work out, and what the paper says.
 -- An outcome is written as its numbers: 0 and the values, or the refusal's number alone. Assumes nothing.
 use Prim.Native.Nat.{ℕ, _*_}
-use mathlib.Core.List.{List, [], _∷_}
-use lib.Ieee.{Float, binary32, ofBits}
+use mathlib.Core.List.{List, [], _∷_, _++_, map}
+use lib.Ieee.{Float, binary32, ofBits, toBits}
 use lib.IntN.{natAbs}
 use Rattle.refusals.specs.Outcome.{Outcome, accepted, refused}
+use Rattle.refusals.specs.declared.Shape.{Shape}
 use Rattle.word.specs.Word.{turns}
 use Rattle.points.specs.declared.Point.{Point}
 use Rattle.points.specs.declared.Quad.{Quad}
@@ -15,6 +16,8 @@ use Rattle.search.specs.Search.{Seen}
 use Rattle.tag_families.specs.Codes.{t16h5}
 use Rattle.muosleap.specs.Codes.{turned, bestTag}
 use Rattle.muosleap.specs.BitCode.{bitCode}
+use Rattle.muosleap.specs.ImageUtil.{hessianResponse}
+use Rattle.muosleap.specs.SaddleClusters.{Call, initSaddleClusters}
 
 pub record Row : Type 0 where
   pub worked : List ℕ
@@ -54,6 +57,30 @@ square =
 abbrev module22 : Axis → List ℕ
 module22 axis = 2 * natAbs (modulePlace axis 8 2 2) ∷ modulePixel axis 8 2 2 ∷ []
 
+-- a plane of f32, each sample by its bits: 0, and 1, -1, -2 and -4 as named
+abbrev plane : List ℕ → List Float
+plane = map (ofBits binary32)
+
+abbrev one : ℕ
+one = 0x3F80_0000
+
+abbrev minusOne : ℕ
+minusOne = 0xBF80_0000
+
+abbrev minusTwo : ℕ
+minusTwo = 0xC000_0000
+
+abbrev minusFour : ℕ
+minusFour = 0xC080_0000
+
+-- the bits of a plane's response
+abbrev responded : List ℕ → Shape → List ℕ
+responded samples shape = map (toBits binary32) (hessianResponse (plane samples) shape (plane samples) .out)
+
+-- the outcome of a search for clusters, and behind it the row slice
+abbrev clustersOf : Call → List ℕ
+clustersOf call = wordNumbers (call .answer) ++ call .rows
+
 abbrev pub rows : List Row
 rows =
     -- "one turn of 231B (hexadecimal, edge 4) is 7D01; two, D8C4; three, 80BE"
@@ -72,4 +99,20 @@ rows =
     -- "T16H5 quad (0.5, 0.5), (16.5, 0.5), (16.5, 16.5), (0.5, 16.5): module (2, 2) at 5.5, 5.5, pixel 6, 6"
     record { worked = module22 (axesOf square .x); says = 11 * (4096 * 8) ∷ 6 ∷ [] } ∷
     record { worked = module22 (axesOf square .y); says = 11 * (4096 * 8) ∷ 6 ∷ [] } ∷
+    -- "3 × 3 plane with 1 left and right of the middle, −1 above and below, else 0: response −4"
+    record {
+      worked = responded (0 ∷ minusOne ∷ 0 ∷ one ∷ 0 ∷ one ∷ 0 ∷ minusOne ∷ 0 ∷ []) record { width = 3; height = 3 };
+      says = 0 ∷ 0 ∷ 0 ∷ 0 ∷ minusFour ∷ 0 ∷ 0 ∷ 0 ∷ 0 ∷ [];
+    } ∷
+    -- "5 × 3 plane, middle row −2 −2 0 −2 0, else 0, threshold −1: rows 1 2 2 and 3 1 1, total 2"
+    record {
+      worked = clustersOf
+          (initSaddleClusters
+          (plane (0 ∷ 0 ∷ 0 ∷ 0 ∷ 0 ∷ minusTwo ∷ minusTwo ∷ 0 ∷ minusTwo ∷ 0 ∷ 0 ∷ 0 ∷ 0 ∷ 0 ∷ 0 ∷ []))
+          record { width = 5; height = 3 }
+          (ofBits binary32 minusOne)
+          46
+          (0 ∷ 0 ∷ 0 ∷ 0 ∷ 0 ∷ 0 ∷ []));
+      says = 0 ∷ 2 ∷ 1 ∷ 2 ∷ 2 ∷ 3 ∷ 1 ∷ 1 ∷ [];
+    } ∷
     []
