@@ -1,5 +1,6 @@
 //! Cuts the original functions, to the letter, out of a copy of the original files and writes them to `$OUT_DIR/original.rs`.
 //! The folder of the copy is in the variable ORIGINAL. Parts that stand inside larger functions are cut out as text too, and wrapped.
+//! Where ORIGINAL is not set, the library has no original functions, which crates that depend on it learn by `DEP_ORIGINAL_FOUND`.
 
 use std::{env, fs, path::Path};
 
@@ -9,7 +10,7 @@ struct Source(String);
 impl Source {
     fn read(folder: &str, name: &str) -> Source {
         let path = Path::new(folder).join(name);
-        println!("cargo:rerun-if-changed={}", path.display());
+        println!("cargo::rerun-if-changed={}", path.display());
         Source(fs::read_to_string(&path).unwrap_or_else(|e| panic!("{}: {e}", path.display())))
     }
 
@@ -131,9 +132,11 @@ pub fn clusters(h_mat: GrayImagef32, threshold: f32) -> Vec<Vec<(u32, u32)>> { i
 ";
 
 fn main() {
-    println!("cargo:rerun-if-changed=build.rs");
-    println!("cargo:rerun-if-env-changed=ORIGINAL");
-    let folder = env::var("ORIGINAL").expect("ORIGINAL has to name the folder with a copy of the original files");
+    println!("cargo::rerun-if-changed=build.rs");
+    println!("cargo::rerun-if-env-changed=ORIGINAL");
+    println!("cargo::rustc-check-cfg=cfg(original)");
+    let Ok(folder) = env::var("ORIGINAL") else { return };
+    assert!(Path::new(&folder).is_absolute(), "ORIGINAL has to be a path from the root, and is {folder}");
     let text = format!(
         "pub mod tag_families {{\n{}}}\npub mod image_util {{\n{}}}\npub mod detector {{\n{}}}\n",
         Source::read(&folder, "tag_families.rs").0,
@@ -141,4 +144,6 @@ fn main() {
         detector(&Source::read(&folder, "detector.rs")),
     );
     fs::write(Path::new(&env::var("OUT_DIR").unwrap()).join("original.rs"), text).unwrap();
+    println!("cargo::rustc-cfg=original");
+    println!("cargo::metadata=FOUND=1");
 }

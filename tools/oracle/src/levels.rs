@@ -11,7 +11,7 @@ pub fn files() -> Vec<File> {
 
 /// What the original says of levels: a refusal number and the bits. It reads them from a picture of one row. It has one answer for
 /// both refusals; with every unsure module allowed only 11 is left.
-fn read(levels: &[u8], band: u8, allowed: u32) -> (u8, u64) {
+pub fn read(levels: &[u8], band: u8, allowed: u32) -> (u8, u64) {
     let picture = GrayImage::from_raw(levels.len() as u32, 1, levels.to_vec()).unwrap();
     let places: Vec<(f32, f32)> = (0..levels.len()).map(|x| (x as f32, 0.0)).collect();
     match (bit_code(&picture, &places, band, allowed), bit_code(&picture, &places, band, u32::MAX)) {

@@ -34,7 +34,7 @@ impl Print {
 
     /// The plane in document 01's words: for each pixel the print's row and column, counted in cells from the print's first corner,
     /// rows running clockwise.
-    fn painted(&self) -> Vec<u8> {
+    pub fn painted(&self) -> Vec<u8> {
         let (side, edge, border) = (self.size() / self.cell, self.edge as u64, self.border as u64);
         let pixel = |place: u64| {
             let (x, y) = (place % self.width, place / self.width);
@@ -60,7 +60,7 @@ impl Print {
     }
 
     /// The outer corners, clockwise from the print's first, which is the corner that the turn says.
-    fn quad(&self) -> Quad {
+    pub fn quad(&self) -> Quad {
         let (left, top) = (self.x as f32 - 0.5, self.y as f32 - 0.5);
         let (right, bottom) = (left + self.size() as f32, top + self.size() as f32);
         started(&[(left, top), (right, top), (right, bottom), (left, bottom)], self.turn as usize)

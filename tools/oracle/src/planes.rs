@@ -11,18 +11,18 @@ pub fn files() -> Vec<File> {
 
 /// A plane of floats with its sides.
 #[derive(Clone)]
-struct Plane {
-    width: usize,
-    height: usize,
-    samples: Vec<f32>,
+pub struct Plane {
+    pub width: usize,
+    pub height: usize,
+    pub samples: Vec<f32>,
 }
 
 impl Plane {
-    fn new(width: usize, height: usize, mut sample: impl FnMut() -> f32) -> Plane {
+    pub fn new(width: usize, height: usize, mut sample: impl FnMut() -> f32) -> Plane {
         Plane { width, height, samples: (0..width * height).map(|_| sample()).collect() }
     }
 
-    fn image(&self) -> GrayImagef32 {
+    pub fn image(&self) -> GrayImagef32 {
         GrayImagef32::from_raw(self.width as u32, self.height as u32, self.samples.clone()).unwrap()
     }
 
@@ -34,7 +34,7 @@ impl Plane {
 }
 
 /// A sample to be blurred: from 0.0 to 1.0, now and then a limit or a value that is easily lost.
-fn unit(numbers: &mut Numbers) -> f32 {
+pub fn unit(numbers: &mut Numbers) -> f32 {
     const ODD: [f32; 8] = [0.0, 1.0, -0.0, 1.0e-45, 1.0e-38, 0.999_999_94, 0.5, 5.0e-8];
     match numbers.below(4) {
         0 => ODD[numbers.below(ODD.len())],
@@ -84,7 +84,7 @@ fn digest_of_blur(width: usize, height: usize, sigma: f32, seed: u64) -> Frame {
 }
 
 /// A sample of magnitude up to 65,536, of either sign: small and large, zeros of both signs, subnormals.
-fn wide(numbers: &mut Numbers) -> f32 {
+pub fn wide(numbers: &mut Numbers) -> f32 {
     const ODD: [f32; 10] = [0.0, -0.0, 1.0e-45, -1.0e-45, 1.0e-39, 65_536.0, -65_536.0, 1.0, -1.0, 3.0e-20];
     let sign = if numbers.below(2) == 0 { 1.0 } else { -1.0 };
     match numbers.below(5) {
@@ -119,7 +119,7 @@ fn response() -> File {
 }
 
 /// The original's threshold, a zero of either sign as +0.0 (document 01).
-fn lowest(plane: &Plane) -> f32 {
+pub fn lowest(plane: &Plane) -> f32 {
     response_threshold(&plane.image()) + 0.0
 }
 
@@ -151,7 +151,7 @@ fn threshold() -> File {
 }
 
 /// What the original's clusters say: a row of sums and count for each, and the plane afterwards.
-fn walked(plane: &Plane, threshold: f32) -> (Vec<[usize; 3]>, Vec<f32>) {
+pub fn walked(plane: &Plane, threshold: f32) -> (Vec<[usize; 3]>, Vec<f32>) {
     let mut after = plane.samples.clone();
     let rows = clusters(plane.image(), threshold).into_iter().map(|cluster| {
         let (mut sum_x, mut sum_y) = (0, 0);
@@ -175,14 +175,14 @@ fn clustered(plane: &Plane, threshold: f32, more: isize) -> Frame {
 }
 
 /// A plane from a picture: `#` is -1, anything else 0.
-fn drawn(picture: &str) -> Plane {
+pub fn drawn(picture: &str) -> Plane {
     let lines: Vec<&str> = picture.split('/').collect();
     let samples = lines.concat().chars().map(|mark| if mark == '#' { -1.0 } else { 0.0 }).collect();
     Plane { width: lines[0].len(), height: lines.len(), samples }
 }
 
 /// Spirals, combs, plateaus along the border, clusters that meet at a corner only, clusters that hang on the border alone.
-const PICTURES: [&str; 14] = [
+pub const PICTURES: [&str; 14] = [
     "#",
     "##/##",
     "...../.###./.###./.###./.....",

@@ -56,10 +56,10 @@ const FAMILIES: [TagFamily; 5] = [TagFamily::T16H5, TagFamily::T25H7, TagFamily:
 
 /// A picture, and the family that reads it.
 pub struct Picture {
-    number: u8,
+    pub number: u8,
     pub detector: TagDetector,
-    width: usize,
-    height: usize,
+    pub width: usize,
+    pub height: usize,
     pub pixels: Vec<u8>,
 }
 
@@ -74,7 +74,7 @@ impl Picture {
     }
 
     /// Draws a word with its upper left pixel at a place, and answers its outer corners, clockwise from the upper left.
-    fn draw(&mut self, word: u64, (left, top): (usize, usize), cell: usize, shades: [u8; 2]) -> Quad {
+    pub fn draw(&mut self, word: u64, (left, top): (usize, usize), cell: usize, shades: [u8; 2]) -> Quad {
         let (edge, border) = (self.detector.edge() as usize, self.detector.border() as usize);
         for y in 0..self.side() * cell {
             for x in 0..self.side() * cell {
@@ -169,7 +169,7 @@ fn near(x: f32, by: f32, numbers: &mut Numbers) -> f32 {
 }
 
 /// The four starts of a quad, of slightly moved ones, of ones that run the other way round, and quads anywhere in the picture.
-fn quads_of(picture: &Picture, quad: &Quad, numbers: &mut Numbers) -> Vec<Quad> {
+pub fn quads_of(picture: &Picture, quad: &Quad, numbers: &mut Numbers) -> Vec<Quad> {
     let mut quads: Vec<Quad> = (0..4).map(|start| started(quad, start)).collect();
     for by in [0.25, 0.5, 1.0, 3.0] {
         let moved = quad.map(|(x, y)| (near(x, by, numbers), near(y, by, numbers)));

@@ -20,7 +20,7 @@ pub fn files() -> Vec<File> {
 }
 
 /// The number with ones at the edge² places of the square.
-fn square(edge: u8) -> u64 {
+pub fn square(edge: u8) -> u64 {
     u64::MAX >> (64 - edge as u32 * edge as u32)
 }
 
@@ -175,7 +175,7 @@ fn family(path: &'static str, number: u8, family: TagFamily, seed: u64, every: u
 }
 
 /// The likeness check in document 01's words. The original has none.
-fn is_unlike(edge: u8, threshold: u8, codes: &[u64]) -> bool {
+pub fn is_unlike(edge: u8, threshold: u8, codes: &[u64]) -> bool {
     let t = threshold as u32;
     let places = edge as u32 * edge as u32;
     let turns = |code: u64| {

@@ -1,5 +1,6 @@
 //! What the original functions use of the crate `image`: a plane of one channel, row by row.
-//! Every access that `image` leaves unchecked is checked here, so that a read past the plane ends the run.
+//! Every access that `image` leaves unchecked is checked here in a build with debug assertions, as the oracle's is, so that a read
+//! past the plane ends the run. In a build without them it is unchecked, as in `image`, so that times can be compared.
 
 use std::marker::PhantomData;
 use std::ops::{Deref, DerefMut};
@@ -61,6 +62,11 @@ impl<T: Copy + Default> ImageBuffer<Luma<T>, Vec<T>> {
 
     fn place(&self, x: u32, y: u32) -> usize {
         assert!(x < self.width && y < self.height, "no sample at ({x}, {y})");
+        self.place_unchecked(x, y)
+    }
+
+    fn place_unchecked(&self, x: u32, y: u32) -> usize {
+        debug_assert!(x < self.width && y < self.height, "no sample at ({x}, {y})");
         y as usize * self.width as usize + x as usize
     }
 }
@@ -88,7 +94,7 @@ impl<T> DerefMut for ImageBuffer<Luma<T>, Vec<T>> {
     }
 }
 
-/// Reading a sample with no check, which is checked here.
+/// Reading a sample with no check but that of debug assertions.
 pub trait GenericImageView {
     type Pixel;
     /// # Safety
@@ -96,7 +102,7 @@ pub trait GenericImageView {
     unsafe fn unsafe_get_pixel(&self, x: u32, y: u32) -> Self::Pixel;
 }
 
-/// Writing a sample with no check, which is checked here.
+/// Writing a sample with no check but that of debug assertions.
 pub trait GenericImage: GenericImageView {
     /// # Safety
     /// The place is within the plane.
@@ -106,13 +112,15 @@ pub trait GenericImage: GenericImageView {
 impl<T: Copy + Default> GenericImageView for ImageBuffer<Luma<T>, Vec<T>> {
     type Pixel = Luma<T>;
     unsafe fn unsafe_get_pixel(&self, x: u32, y: u32) -> Luma<T> {
-        *self.get_pixel(x, y)
+        // SAFETY: the caller says that the place is within the plane.
+        Luma([unsafe { *self.data.get_unchecked(self.place_unchecked(x, y)) }])
     }
 }
 
 impl<T: Copy + Default> GenericImage for ImageBuffer<Luma<T>, Vec<T>> {
     unsafe fn unsafe_put_pixel(&mut self, x: u32, y: u32, pixel: Luma<T>) {
-        let place = self.place(x, y);
-        self.data[place] = pixel.0[0];
+        let place = self.place_unchecked(x, y);
+        // SAFETY: the caller says that the place is within the plane.
+        unsafe { *self.data.get_unchecked_mut(place) = pixel.0[0] };
     }
 }

@@ -1,0 +1,157 @@
+//! Words, levels, quads, the likeness check, the painter.
+
+use crate::measure::{Times, alone, both, timed};
+use muosleap::detector::{bit_code, rotate_bits};
+use muosleap::{Family, Print, Quad, Refusal, Shape, Table, c};
+use muosleap_compare::{Numbers, SEED, pictures};
+use oracle::image::GrayImage;
+use oracle::original::detector as original;
+use std::hint::black_box;
+
+const FAMILY: Family = Family::T36H11;
+
+/// Sums what a side answers to each word, so that every answer is used.
+fn each_word(words: &[u64], answer: impl Fn(u64) -> usize) -> usize {
+    words.iter().map(|&word| answer(black_box(word))).sum()
+}
+
+/// Both sides over the same words, each of which has the turn, or none.
+fn search(words: &[u64], turn: Option<u8>) -> Times {
+    let table = FAMILY.table();
+    let ours = |word: u64| table.best_tag(word).map_or(0, |found| found.id + 1);
+    let theirs = |word: u64| {
+        let found = original::best_tag(word, table.hamming_distance, black_box(table.codes), table.edge);
+        found.map_or(0, |(id, _)| id + 1)
+    };
+    for &word in words {
+        assert_eq!(table.best_tag(word).ok().map(|found| found.turn), turn);
+        assert_eq!(ours(word), theirs(word));
+    }
+    both(words.len(), || timed(|| each_word(words, theirs)), || timed(|| each_word(words, ours)))
+}
+
+fn turned(word: u64) -> u64 {
+    rotate_bits(word, FAMILY.table().edge).unwrap()
+}
+
+/// The search and a turn.
+pub fn words() -> Vec<(String, Times)> {
+    let clean = FAMILY.codes().to_vec();
+    let mut numbers = Numbers::from(SEED + 6_100);
+    let misread: Vec<u64> = clean.iter().map(|&code| code ^ 1 << numbers.below(18) ^ 1 << (18 + numbers.below(18))).collect();
+    let third: Vec<u64> = clean.iter().map(|&code| turned(code)).collect();
+    let random = std::iter::repeat_with(|| numbers.next() >> 28);
+    let unread: Vec<u64> = random.filter(|&word| FAMILY.table().best_tag(word) == Err(Refusal::NoCode)).take(587).collect();
+    let turns = both(
+        clean.len(),
+        || timed(|| each_word(&clean, |word| original::turned(word, 6) as usize & 1)),
+        || timed(|| each_word(&clean, |word| turned(word) as usize & 1)),
+    );
+    vec![
+        ("`rotate_bits`, edge 6".into(), turns),
+        ("`best_tag`, clean, each of the 587 codes".into(), search(&clean, Some(0))),
+        ("`best_tag`, two bits misread".into(), search(&misread, Some(0))),
+        ("`best_tag`, clean, at turn 3".into(), search(&third, Some(3))),
+        ("`best_tag`, unread".into(), search(&unread, None)),
+    ]
+}
+
+/// The places of a quad's modules, border 2 and edge 6, as pairs of f32.
+fn places(quad: &Quad) -> Vec<(f32, f32)> {
+    let line = |get: fn(&Quad, usize) -> f32, i: f64, j: f64| {
+        let [p, q, r, s] = [0, 1, 2, 3].map(|k| get(quad, k) as f64);
+        ((p + q + r + s) * 10.0 + (2.0 * i - 9.0) * (r + s - p - q) + (2.0 * j - 9.0) * (q + r - p - s)) / 40.0
+    };
+    let place = |i: usize, j: usize| {
+        let (i, j) = (i as f64, j as f64);
+        (line(|quad, k| quad.corners[k].x, i, j) as f32, line(|quad, k| quad.corners[k].y, i, j) as f32)
+    };
+    (2..8).flat_map(|i| (2..8).map(move |j| place(i, j))).collect()
+}
+
+/// A picture with 144 tags, as both sides take it.
+struct Sheet {
+    shape: Shape,
+    image: GrayImage,
+    quads: Vec<Quad>,
+    places: Vec<Vec<(f32, f32)>>,
+}
+
+impl Sheet {
+    fn new() -> Sheet {
+        let shape = Shape { width: 1920, height: 1080 };
+        let picture = pictures::sheet(shape, 6, &mut Numbers::from(SEED + 6_200));
+        let image = GrayImage::from_raw(shape.width as u32, shape.height as u32, picture.pixels).unwrap();
+        let quads = picture.quads[..144].to_vec();
+        Sheet { shape, image, places: quads.iter().map(places).collect(), quads }
+    }
+
+    /// What the original does after it has the places: bits, then the search.
+    fn theirs(&self, k: usize) -> Option<usize> {
+        let table = FAMILY.table();
+        let bits = original::bit_code(&self.image, &self.places[k], 10, 3)?;
+        original::best_tag(bits, table.hamming_distance, black_box(table.codes), table.edge).map(|(id, _)| id)
+    }
+
+    fn ours(&self, k: usize) -> Option<usize> {
+        FAMILY.try_decode_quad(self.image.as_raw(), self.shape, &self.quads[k]).ok().map(|tag| tag.id)
+    }
+
+    fn levels(&self) -> Times {
+        let levels: Vec<Vec<u8>> = self.places.iter().map(|places| self.samples(places)).collect();
+        let theirs = |k: usize| original::bit_code(&self.image, &self.places[k], 10, 3);
+        let ours = |k: usize| bit_code(black_box(&levels[k]), 10, 3).ok();
+        assert!((0..144).all(|k| ours(k).is_some() && ours(k) == theirs(k)));
+        let sum = |read: &dyn Fn(usize) -> Option<u64>| (0..144).filter_map(read).fold(0, |sum, word| sum ^ word);
+        both(144, || timed(|| sum(&theirs)), || timed(|| sum(&ours)))
+    }
+
+    fn samples(&self, places: &[(f32, f32)]) -> Vec<u8> {
+        places.iter().map(|(x, y)| self.image.get_pixel(x.round() as u32, y.round() as u32).0[0]).collect()
+    }
+
+    fn one_by_one(&self) -> Times {
+        assert!((0..144).all(|k| self.ours(k) == Some(k) && self.theirs(k) == Some(k)));
+        let sum = |read: &dyn Fn(usize) -> Option<usize>| (0..144).filter_map(read).sum::<usize>();
+        both(144, || timed(|| sum(&|k| self.theirs(k))), || timed(|| sum(&|k| self.ours(k))))
+    }
+
+    fn list(&self) -> Times {
+        let quads: Vec<f32> = self.quads.iter().flat_map(|&quad| <[f32; 8]>::from(quad)).collect();
+        let (mut rows, mut corners) = (vec![1; 3 * 144], vec![1.0; 8 * 144]);
+        let (pixels, Shape { width, height }) = (self.image.as_raw(), self.shape);
+        let mut ours = || c::try_decode_quads_in(pixels, width, height, FAMILY.number(), &quads, &mut rows, &mut corners);
+        assert_eq!(ours(), 0);
+        both(1, || timed(|| (0..144).filter_map(|k| self.theirs(k)).sum::<usize>()), || timed(&mut ours))
+    }
+}
+
+/// Levels and quads.
+pub fn quads() -> Vec<(String, Times)> {
+    let sheet = Sheet::new();
+    vec![
+        ("`bit_code`, 36 levels".into(), sheet.levels()),
+        ("`try_decode_quad_in`, one quad".into(), sheet.one_by_one()),
+        ("`try_decode_quads_in`, a list of 144 quads".into(), sheet.list()),
+    ]
+}
+
+/// What the original has not.
+pub fn own() -> Vec<(String, Times)> {
+    let mut numbers = Numbers::from(SEED + 6_300);
+    let codes: Vec<u64> = (0..1_024).map(|_| numbers.next()).collect();
+    let large = Table { edge: 8, border: 1, hamming_distance: 3, codes: &codes };
+    assert_eq!((FAMILY.table().check_likeness(), large.check_likeness()), (Ok(()), Ok(())));
+    let paint = |width: usize, height: usize| {
+        let (shape, word) = (Shape { width, height }, FAMILY.codes()[0]);
+        let (mut plane, print) = (vec![1; shape.len()], Print { x: 100, y: 100, cell: 20, turn: 1, light: 200, dark: 30 });
+        let name = format!("`paint_tag_in`, {width} × {height}, cell 20");
+        (name, alone(1, || timed(|| FAMILY.paint_tag(&mut plane, shape, word, &print))))
+    };
+    vec![
+        ("`check_likeness`, T36H11, 587 codes".into(), alone(1, || timed(|| FAMILY.table().check_likeness()))),
+        ("`check_likeness`, 1,024 codes of edge 8".into(), alone(1, || timed(|| large.check_likeness()))),
+        paint(640, 480),
+        paint(1920, 1080),
+    ]
+}

@@ -1,0 +1,54 @@
+//! Measures the original and Muosleap in one run, on the same inputs, and prints a Markdown report.
+
+#[cfg(original)]
+mod codes;
+#[cfg(original)]
+mod measure;
+#[cfg(original)]
+mod planes;
+#[cfg(original)]
+mod report;
+
+#[cfg(not(original))]
+fn main() {
+    println!("benchmark: {}", muosleap_compare::SKIPPED);
+}
+
+#[cfg(original)]
+fn main() {
+    println!("# Benchmarks\n\n{HEAD}\n\nMeasured on: {}.", report::machine());
+    report::table("Words", WORDS, &codes::words());
+    report::table("Levels and quads", QUADS, &codes::quads());
+    report::table("What the original has not", OWN, &codes::own());
+    for (width, height) in [(640, 480), (1920, 1080)] {
+        report::table(&format!("Planes of {width} × {height}"), PLANES, &planes::Planes::new(width, height).entries());
+    }
+    let sizes = [(640, 480), (1280, 960), (1920, 1080), (2592, 1944), (4096, 3072), (4096, 4096)];
+    let rows = sizes.map(|(width, height)| ((width, height), planes::Planes::new(width, height).chain()));
+    report::growth(GROWTH, &rows);
+    println!("\nLoad average at the end: {}.", report::load());
+}
+
+#[cfg(original)]
+const HEAD: &str = "Written by `cargo run --release --bin bench` in tools/host, with ORIGINAL set. The original functions are built from \
+an unmodified copy of their files. Both sides are release builds for plain x86-64 and run in turns in one process on the same inputs; \
+before a row is measured, both sides' answers are held to be the same. A time is the median of 15 rounds of about 20 ms.";
+
+#[cfg(original)]
+const WORDS: &str = "T36H11, 587 codes of 6 × 6 bits. Time for one word.";
+
+#[cfg(original)]
+const QUADS: &str = "Tags of T36H11 on a picture of 1920 × 1080 with noise, at turn 0. The original's times are those of its `bit_code` and \
+`best_tag` at places that are given to it: its solver for the places, faer, could not be had, so its `decode_positions` is left out. \
+Muosleap's readings include the corner tests and the places. In the row of `bit_code` the original also fetches the levels from the picture.";
+
+#[cfg(original)]
+const OWN: &str = "Likeness check and painter are new. The tables pass the check, which is its longest way.";
+
+#[cfg(original)]
+const PLANES: &str = "A sheet of tags with noise. Muosleap's buffers are lent and were written before; the original makes its planes anew in \
+each call, as it does in use. Clusters: each call of either side gets a fresh copy of the response, made outside the time. In the last row \
+the response goes into the plane that the blur had between, which is free by then.";
+
+#[cfg(original)]
+const GROWTH: &str = "Blur, response, threshold and clusters one after the other, as above.";

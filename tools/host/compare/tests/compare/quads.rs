@@ -1,0 +1,137 @@
+//! Readings of quads and lists, by the whole of the original's `try_decode_quad` over a least-squares solver that stands in for
+//! faer. A quad is compared where no module lies so near to a half that the solver's last bits could matter (tools/oracle/README.md).
+
+use crate::tally::{Job, Tally, parts};
+use muosleap::{FAMILIES, Print, Quad, Refusal, Shape, Table, Tag};
+use muosleap_compare::{Numbers, SEED};
+use oracle::painter;
+use oracle::quads::{self, Picture, quads_of};
+
+pub fn jobs() -> Vec<Job> {
+    [
+        parts("try_decode_quad: tags of all families, moved and damaged", 10, tags),
+        parts("try_decode_quad: pictures of noise, quads anywhere", 5, noise),
+        parts("paint_tag, and the four starts read with 0 to t - 1 misprints", 5, painted),
+    ]
+    .concat()
+}
+
+/// A row as numbers: refusal, id, turn, bits of the corners.
+type Row = (u32, usize, u8, [u32; 8]);
+
+fn row(reading: Result<Tag, Refusal>) -> Row {
+    match reading {
+        Ok(tag) => (0, tag.id, tag.turn, <[f32; 8]>::from(tag.corners).map(f32::to_bits)),
+        Err(refusal) => (refusal.number(), 0, 0, [0; 8]),
+    }
+}
+
+fn quad_of(corners: &quads::Quad) -> Quad {
+    let [p, q, r, s] = *corners;
+    Quad::from([p.0, p.1, q.0, q.1, r.0, r.1, s.0, s.1])
+}
+
+/// Reads each quad alone and all in one list, with the family by number and as a lent table.
+fn read_all(picture: &Picture, corners: &[quads::Quad], tally: &mut Tally) {
+    let (family, shape) = (FAMILIES[picture.number as usize], Shape { width: picture.width, height: picture.height });
+    let clear: Vec<&quads::Quad> = corners.iter().filter(|corners| picture.is_clear(corners)).collect();
+    let ours: Vec<Quad> = clear.iter().map(|corners| quad_of(corners)).collect();
+    let listed = family.try_decode_quads(&picture.pixels, shape, &ours).unwrap();
+    let lent = family.table().try_decode_quads(&picture.pixels, shape, &ours).unwrap();
+    for (k, quad) in ours.iter().enumerate() {
+        let (refusal, id, turn, corners) = picture.read(clear[k]);
+        let original = (refusal as u32, id, turn, <[f32; 8]>::from(quad_of(&corners)).map(f32::to_bits));
+        let input = || format!("{family:?}, {} x {}, {quad:?}", picture.width, picture.height);
+        tally.same(row(family.try_decode_quad(&picture.pixels, shape, quad)), original, input);
+        tally.same(row(family.table().try_decode_quad(&picture.pixels, shape, quad)), original, input);
+        tally.same(row(listed[k]), original, input);
+        tally.same(row(lent[k]), original, input);
+    }
+}
+
+fn tags(part: u64, tally: &mut Tally) {
+    let mut numbers = Numbers::from(SEED + 3_000 + part);
+    for _ in 0..600 {
+        let (dark, light) = (numbers.below(120) as u8, 130 + numbers.below(126) as u8);
+        let cell = 1 + numbers.below(5);
+        let side = 12 * cell + 12;
+        let mut picture = Picture::new((part % 5) as u8, side, side + numbers.below(5), |_| light);
+        let codes = picture.detector.code_list().to_vec();
+        let places = picture.detector.edge() as usize * picture.detector.edge() as usize;
+        let mut word = codes[numbers.below(codes.len())];
+        (0..numbers.below(4)).for_each(|_| word ^= 1 << numbers.below(places));
+        let quad = picture.draw(word, (1 + numbers.below(8), 1 + numbers.below(8)), cell, [dark, light]);
+        // Noise, and now and then a shadow that makes modules unsure.
+        let (most, shadow) = ([1, 6, 30, 80][numbers.below(4)], numbers.below(3) == 0);
+        let edge = numbers.below(side);
+        for (place, pixel) in picture.pixels.iter_mut().enumerate() {
+            let level = *pixel as usize + numbers.below(most);
+            *pixel = if shadow && place % side > edge { level / 2 } else { level.min(255) } as u8;
+        }
+        let corners = quads_of(&picture, &quad, &mut numbers);
+        read_all(&picture, &corners, tally);
+    }
+}
+
+fn noise(part: u64, tally: &mut Tally) {
+    let mut numbers = Numbers::from(SEED + 3_100 + part);
+    for _ in 0..500 {
+        let (width, height) = (1 + numbers.below(60), 1 + numbers.below(60));
+        let (least, range) = (numbers.below(128), 40 + numbers.below(88));
+        let picture = Picture::new(part as u8, width, height, |_| (least + numbers.below(range)) as u8);
+        let (w, h) = (width as f32 - 1.0, height as f32 - 1.0);
+        let corners = quads_of(&picture, &[(0.0, 0.0), (w, 0.0), (w, h), (0.0, h)], &mut numbers);
+        read_all(&picture, &corners, tally);
+    }
+}
+
+/// The painter against a second one, and what document 01 says of painted tags at any turn and start.
+fn painted(part: u64, tally: &mut Tally) {
+    let mut numbers = Numbers::from(SEED + 3_200 + part);
+    let family = FAMILIES[part as usize];
+    let table = family.table();
+    for _ in 0..600 {
+        let (dark, cell, turn) = (numbers.below(200) as u8, 1 + numbers.below(9), numbers.below(4) as u8);
+        let light = dark + 50 + numbers.below(206 - dark as usize) as u8;
+        let (x, y) = (numbers.below(9), numbers.below(9));
+        let side = (table.edge + 2 * table.border) as usize * cell;
+        let shape = Shape { width: x + side + 1 + numbers.below(4), height: y + side + 1 + numbers.below(4) };
+        let (id, misprints) = (numbers.below(table.codes.len()), numbers.below(table.hamming_distance as usize));
+        let places = table.edge as usize * table.edge as usize;
+        let word = (0..misprints).fold(table.codes[id], |word, k| word ^ 1 << ((7 * k + id) % places));
+        let mut plane = vec![7; shape.len()];
+        let print = Print { x, y, cell, turn, light, dark };
+        let quad = family.paint_tag(&mut plane, shape, word, &print).unwrap();
+        let input = || format!("{family:?}, {shape:?}, {print:?}, word {word:#x}");
+        let second = second(&table, shape, word, &print);
+        tally.same(&plane, &second.painted(), input);
+        tally.same(quad, quad_of(&second.quad()), input);
+        let mut print_order = quad;
+        print_order.corners.reverse();
+        for start in 0..4 {
+            let read = family.try_decode_quad(&plane, shape, &quad.started(start));
+            let promised = Tag { id, turn: (4 - start as u8) % 4, corners: print_order };
+            tally.same(read, Ok(promised), input);
+        }
+        let four: Vec<Quad> = (0..4).map(|start| quad.started(start)).collect();
+        let alone: Vec<_> = four.iter().map(|quad| family.try_decode_quad(&plane, shape, quad)).collect();
+        tally.same(family.try_decode_quads(&plane, shape, &four), Ok(alone), input);
+    }
+}
+
+/// The same print for the oracle's painter.
+fn second(table: &Table, shape: Shape, word: u64, print: &Print) -> painter::Print {
+    painter::Print {
+        width: shape.width as u64,
+        height: shape.height as u64,
+        edge: table.edge,
+        border: table.border,
+        word,
+        x: print.x as u64,
+        y: print.y as u64,
+        cell: print.cell as u64,
+        turn: print.turn,
+        light: print.light,
+        dark: print.dark,
+    }
+}

@@ -1,0 +1,382 @@
+//! A refused call leaves every lent buffer as it was, bit for bit: NaN payloads, the worklist, the small outputs. An accepted one
+//! leaves what lies beyond its answer. This needs no file of the original's.
+
+use muosleap::{Family, c};
+use muosleap_compare::{Numbers, SEED};
+
+/// The bits of what is lent to a call.
+trait Bits: Clone {
+    fn bits(&self) -> Vec<u64>;
+}
+
+macro_rules! bits_of_numbers {
+    ($($kind:ty: $bits:expr),*) => {
+        $(impl Bits for $kind {
+            fn bits(&self) -> Vec<u64> {
+                vec![$bits(*self)]
+            }
+        })*
+    };
+}
+
+bits_of_numbers!(u8: u64::from, u32: u64::from, u64: u64::from, usize: |n| n as u64, f32: |x: f32| x.to_bits() as u64);
+
+impl<T: Bits> Bits for Vec<T> {
+    fn bits(&self) -> Vec<u64> {
+        self.iter().flat_map(T::bits).collect()
+    }
+}
+
+impl<T: Bits, const N: usize> Bits for [T; N] {
+    fn bits(&self) -> Vec<u64> {
+        self.iter().flat_map(T::bits).collect()
+    }
+}
+
+macro_rules! bits_of_tuples {
+    ($(($($name:ident),*)),*) => {
+        $(impl<$($name: Bits),*> Bits for ($($name,)*) {
+            #[allow(non_snake_case)]
+            fn bits(&self) -> Vec<u64> {
+                let ($($name,)*) = self;
+                [$($name.bits()),*].concat()
+            }
+        })*
+    };
+}
+
+bits_of_tuples!((A, B), (A, B, D), (A, B, D, E));
+
+/// The calls so far, and the numbers that buffers are filled with.
+struct Calls {
+    numbers: Numbers,
+    refused: u64,
+    words: u64,
+}
+
+impl Calls {
+    /// Calls with what is lent, and expects the refusal and everything as it was.
+    fn refuse<L: Bits>(&mut self, name: &str, number: u32, mut lent: L, call: impl FnOnce(&mut L) -> u32) {
+        let before = lent.bits();
+        let answer = call(&mut lent);
+        assert_eq!(answer, number, "{name}");
+        assert!(lent.bits() == before, "{name}: a buffer changed in a call that was refused with {number}");
+        self.refused += 1;
+        self.words += before.len() as u64;
+    }
+
+    /// Any bits, NaN with a payload in half of the places, quiet and signalling.
+    fn floats(&mut self, count: usize) -> Vec<f32> {
+        let mut number = || self.numbers.next();
+        let float = |_| f32::from_bits(number() as u32 | if number() % 2 == 0 { 0x7f80_0000 } else { 0 });
+        (0..count).map(float).collect()
+    }
+
+    fn eight(&mut self) -> [f32; 8] {
+        self.floats(8).try_into().unwrap()
+    }
+
+    fn longs(&mut self, count: usize) -> Vec<u64> {
+        (0..count).map(|_| self.numbers.next()).collect()
+    }
+
+    fn ints(&mut self, count: usize) -> Vec<u32> {
+        (0..count).map(|_| self.numbers.next() as u32).collect()
+    }
+
+    fn bytes(&mut self, count: usize) -> Vec<u8> {
+        (0..count).map(|_| self.numbers.next() as u8).collect()
+    }
+}
+
+pub fn main() {
+    let mut calls = Calls { numbers: Numbers::from(SEED + 5_000), refused: 0, words: 0 };
+    for _ in 0..20 {
+        words(&mut calls);
+        levels(&mut calls);
+        quads(&mut calls);
+        lists(&mut calls);
+        painter(&mut calls);
+        blur(&mut calls);
+        response(&mut calls);
+        clusters(&mut calls);
+        centers(&mut calls);
+    }
+    let rows = beyond_the_answer(&mut calls);
+    println!(
+        "refused calls leave every buffer as it was, NaN payloads included: {} calls, {} numbers",
+        calls.refused, calls.words
+    );
+    println!("accepted calls leave what lies beyond their answer: {rows} calls");
+}
+
+fn words(calls: &mut Calls) {
+    for edge in [0, 9, 64, 255] {
+        let word = calls.numbers.next();
+        calls.refuse("rotate_bits", 6, word, |word| c::rotate_bits(0x231B, edge, word));
+    }
+    let codes = Family::T16H5.codes();
+    let many = vec![1u64; 1_025];
+    let outside = [0x231B, 0x1_0000];
+    let tables: [(u8, &[u64], u8); 8] =
+        [(1, codes, 0), (1, codes, 9), (0, codes, 4), (65, codes, 4), (1, &[], 4), (1, &many, 4), (1, &outside, 4), (1, &[2], 1)];
+    for (distance, codes, edge) in tables {
+        let lent = (calls.numbers.next() as usize, calls.numbers.next() as u8);
+        calls.refuse("best_tag", 6, lent, |(id, turn)| c::best_tag(0x231B, distance, codes, edge, id, turn));
+    }
+    let lent = (calls.numbers.next() as usize, calls.numbers.next() as u8);
+    calls.refuse("best_tag", 13, lent, |(id, turn)| c::best_tag(0x231A, 1, codes, 4, id, turn));
+}
+
+fn levels(calls: &mut Calls) {
+    let rows: [(u32, &[u8], u8, u32); 5] =
+        [(15, &[], 10, 3), (15, &[0; 65], 10, 3), (11, &[0, 49], 10, 3), (11, &[7], 0, 0), (12, &[0, 51, 17], 10, 0)];
+    for (number, levels, band, allowed) in rows {
+        let word = calls.numbers.next();
+        calls.refuse("bit_code", number, word, |word| c::bit_code(levels, band, allowed, word));
+    }
+}
+
+/// Corners and what they are refused with: on a plane of 20 × 20 pixels of which each is 90.
+fn bad_quads() -> Vec<(u32, [f32; 8])> {
+    let good = [0.5, 0.5, 18.5, 0.5, 18.5, 18.5, 0.5, 18.5];
+    let with = |place: usize, value: f32| {
+        let mut quad = good;
+        quad[place] = value;
+        quad
+    };
+    let out_of_range = [f32::NAN, -f32::NAN, f32::from_bits(0x7f80_1234), f32::INFINITY, f32::NEG_INFINITY, 16_384.0, -16_384.0];
+    let mut quads: Vec<(u32, [f32; 8])> = Vec::new();
+    for place in 0..8 {
+        quads.extend(out_of_range.iter().map(|&value| (8, with(place, value))));
+        quads.extend([19.5, 16_383.0].map(|value| (9, with(place, value))));
+    }
+    let edge = 19.5 - 1.0 / 4_096.0;
+    quads.push((10, [edge; 8]));
+    quads.push((11, good));
+    quads
+}
+
+fn quads(calls: &mut Calls) {
+    let plane = [90u8; 400];
+    let stripes: Vec<u8> = (0..400).map(|k| if k % 20 < 10 { 30 } else { 200 }).collect();
+    let unsure: Vec<u8> = (0..400).map(|k| [0, 60, 28, 29][k % 4]).collect();
+    let lent = |calls: &mut Calls| (calls.numbers.next() as usize, calls.numbers.next() as u8, calls.eight());
+    let good = [0.5, 0.5, 18.5, 0.5, 18.5, 18.5, 0.5, 18.5];
+    for (number, quad) in bad_quads() {
+        let outputs = lent(calls);
+        calls.refuse("try_decode_quad_in", number, outputs, |(id, turn, corners)| {
+            c::try_decode_quad_in(&plane, 20, 20, 3, &quad, id, turn, corners)
+        });
+        let outputs = lent(calls);
+        calls.refuse("try_decode_quad", number, outputs, |(id, turn, corners)| {
+            c::try_decode_quad(&plane, 20, 20, 4, 2, 1, &[0x231B], &quad, id, turn, corners)
+        });
+    }
+    for (number, plane) in [(13, &stripes), (12, &unsure)] {
+        let outputs = lent(calls);
+        calls.refuse("try_decode_quad_in", number, outputs, |(id, turn, corners)| {
+            c::try_decode_quad_in(plane, 20, 20, 3, &good, id, turn, corners)
+        });
+    }
+    for (width, height) in [(0, 0), (0, 20), (20, 0), (4_097, 1), (20, 21), (usize::MAX, 2), (1 << 63, 2), (1 << 32, 1 << 32)] {
+        let outputs = lent(calls);
+        calls.refuse("try_decode_quad_in", 1, outputs, |(id, turn, corners)| {
+            c::try_decode_quad_in(&plane, width, height, 3, &good, id, turn, corners)
+        });
+    }
+    for family in [5, 255] {
+        let outputs = lent(calls);
+        calls.refuse("try_decode_quad_in", 6, outputs, |(id, turn, corners)| {
+            c::try_decode_quad_in(&plane, 20, 20, family, &good, id, turn, corners)
+        });
+    }
+    for (edge, border, distance) in [(0, 2, 1), (9, 2, 1), (4, 0, 1), (4, 5, 1), (4, 2, 0), (4, 2, 65), (3, 2, 1)] {
+        let outputs = lent(calls);
+        calls.refuse("try_decode_quad", 6, outputs, |(id, turn, corners)| {
+            c::try_decode_quad(&plane, 20, 20, edge, border, distance, &[0x231B], &good, id, turn, corners)
+        });
+    }
+}
+
+fn lists(calls: &mut Calls) {
+    let plane = [90u8; 400];
+    let list = |calls: &mut Calls, number: u32, sizes: [usize; 3], width: usize, family: u8| {
+        let quads = calls.floats(sizes[0]);
+        let outputs = (calls.longs(sizes[1]), calls.floats(sizes[2]));
+        calls.refuse("try_decode_quads_in", number, outputs.clone(), |(rows, corners)| {
+            c::try_decode_quads_in(&plane, width, 20, family, &quads, rows, corners)
+        });
+        let edge = if family < 5 { 4 } else { 9 };
+        calls.refuse("try_decode_quads", number, outputs, |(rows, corners)| {
+            c::try_decode_quads(&plane, width, 20, edge, 2, 1, &[0x231B], &quads, rows, corners)
+        });
+    };
+    list(calls, 1, [16, 6, 16], 21, 0);
+    list(calls, 6, [16, 6, 16], 20, 5);
+    for sizes in [[7, 6, 16], [9, 6, 16], [16, 5, 16], [16, 6, 15], [8_200, 3_075, 8_200], [1, 0, 0], [8, 0, 8], [8, 3, 0]] {
+        list(calls, 16, sizes, 20, 0);
+    }
+}
+
+fn painter(calls: &mut Calls) {
+    // T16H5 in a plane of 20 × 20 pixels: 8 modules a side.
+    let fits = (20, 20, 0x231B, 1, 1, 2, 0, 200, 50);
+    let (w, h, word, x, y, cell, turn, light, dark) = fits;
+    let prints = [
+        (1, 21, h, word, x, y, cell, turn, light, dark),
+        (1, 0, h, word, x, y, cell, turn, light, dark),
+        (1, 4_097, h, word, x, y, cell, turn, light, dark),
+        (14, w, h, 0x1_0000, x, y, cell, turn, light, dark),
+        (14, w, h, word, x, y, 0, turn, light, dark),
+        (14, w, h, word, x, y, 65, turn, light, dark),
+        (14, w, h, word, x, y, usize::MAX, turn, light, dark),
+        (14, w, h, word, x, y, cell, 4, light, dark),
+        (14, w, h, word, x, y, cell, turn, 99, dark),
+        (14, w, h, word, x, y, cell, turn, 10, 250),
+        (14, w, h, word, 4, y, cell, turn, light, dark),
+        (14, w, h, word, x, 4, cell, turn, light, dark),
+        (14, w, h, word, usize::MAX, y, cell, turn, light, dark),
+        (14, w, h, word, x, usize::MAX - 15, cell, turn, light, dark),
+    ];
+    for (number, w, h, word, x, y, cell, turn, light, dark) in prints {
+        let lent = (calls.bytes(400), calls.eight());
+        calls.refuse("paint_tag", number, lent.clone(), |(plane, quad)| {
+            c::paint_tag(plane, w, h, 4, 2, word, x, y, cell, turn, light, dark, quad)
+        });
+        calls.refuse("paint_tag_in", number, lent, |(plane, quad)| {
+            c::paint_tag_in(plane, w, h, 0, word, x, y, cell, turn, light, dark, quad)
+        });
+    }
+    for (edge, border) in [(0, 2), (9, 2), (4, 0), (4, 5)] {
+        let lent = (calls.bytes(400), calls.eight());
+        calls.refuse("paint_tag", 6, lent, |(plane, quad)| {
+            c::paint_tag(plane, w, h, edge, border, word, x, y, cell, turn, light, dark, quad)
+        });
+    }
+    let lent = (calls.bytes(400), calls.eight());
+    calls.refuse("paint_tag_in", 6, lent, |(plane, quad)| {
+        c::paint_tag_in(plane, w, h, 5, word, x, y, cell, turn, light, dark, quad)
+    });
+}
+
+fn blur(calls: &mut Calls) {
+    let weights = [0.25, 0.5, 0.25];
+    let good = vec![0.5; 35];
+    for (width, height, img, temp, out) in
+        [(0, 5, 0, 0, 0), (7, 5, 34, 35, 35), (7, 5, 35, 36, 35), (7, 5, 35, 35, 0), (4_097, 1, 4_097, 4_097, 4_097)]
+    {
+        let lent = (calls.floats(temp), calls.floats(out));
+        let img = calls.floats(img);
+        calls.refuse("gaussian_blur_f32", 1, lent, |(temp, out)| c::gaussian_blur_f32(&img, width, height, &weights, temp, out));
+    }
+    let odd = [f32::NAN, -0.1, 1.000_000_1, f32::INFINITY, -1.0e-45];
+    let mut bad: Vec<Vec<f32>> = [0, 2, 8, 16, 17].map(|count| vec![0.1; count]).to_vec();
+    bad.extend(odd.map(|weight| vec![0.25, 0.5, weight]));
+    for weights in bad {
+        let lent = (calls.floats(35), calls.floats(35));
+        calls.refuse("gaussian_blur_f32", 2, lent, |(temp, out)| c::gaussian_blur_f32(&good, 7, 5, &weights, temp, out));
+    }
+    for value in odd {
+        for place in [0, 1, 15, 16, 33, 34] {
+            let mut img = good.clone();
+            img[place] = value;
+            let lent = (calls.floats(35), calls.floats(35));
+            calls.refuse("gaussian_blur_f32", 3, lent, |(temp, out)| c::gaussian_blur_f32(&img, 7, 5, &weights, temp, out));
+        }
+    }
+}
+
+/// Samples that the response, the threshold and the clusters refuse.
+fn odd_samples() -> [f32; 6] {
+    [f32::NAN, f32::from_bits(0xff81_2345), f32::INFINITY, f32::NEG_INFINITY, 65_536.01, -65_536.01]
+}
+
+fn response(calls: &mut Calls) {
+    for (width, height, img, out) in
+        [(0, 5, 0, 0), (7, 5, 34, 35), (7, 5, 35, 34), (5, 4_097, 20_485, 20_485), (1 << 60, 16, 0, 0)]
+    {
+        let (img, lent) = (calls.floats(img), calls.floats(out));
+        calls.refuse("hessian_response", 1, lent, |out| c::hessian_response(&img, width, height, out));
+        if img.len() != width.wrapping_mul(height) || width > 4_096 || height > 4_096 || width == 0 {
+            let lent = calls.floats(1)[0];
+            calls.refuse("response_threshold", 1, lent, |threshold| c::response_threshold(&img, width, height, threshold));
+        }
+    }
+    for value in odd_samples() {
+        for place in [0, 1, 15, 16, 33, 34] {
+            let mut img = vec![-0.5; 35];
+            img[place] = value;
+            let lent = calls.floats(35);
+            calls.refuse("hessian_response", 3, lent, |out| c::hessian_response(&img, 7, 5, out));
+            let lent = calls.floats(1)[0];
+            calls.refuse("response_threshold", 3, lent, |threshold| c::response_threshold(&img, 7, 5, threshold));
+        }
+    }
+}
+
+fn clusters(calls: &mut Calls) {
+    let mut refuse = |number: u32, width: usize, height: usize, h_mat: Vec<f32>, threshold: f32, worklist: usize| {
+        let lent = (h_mat, calls.ints(worklist), calls.longs(13), calls.numbers.next() as usize);
+        calls.refuse("init_saddle_clusters", number, lent, |(h_mat, worklist, rows, total)| {
+            c::init_saddle_clusters(h_mat, width, height, threshold, worklist, rows, total)
+        });
+    };
+    let good = vec![-0.5; 35];
+    refuse(1, 0, 5, vec![], 0.0, 200);
+    refuse(1, 7, 6, good.clone(), 0.0, 200);
+    refuse(1, 7, 5, vec![f32::NAN; 34], f32::NAN, 0);
+    for value in odd_samples() {
+        for place in [0, 1, 15, 16, 33, 34] {
+            let mut h_mat = good.clone();
+            h_mat[place] = value;
+            refuse(3, 7, 5, h_mat.clone(), 0.0, 106);
+            refuse(3, 7, 5, h_mat, f32::NAN, 0);
+        }
+    }
+    for threshold in [f32::NAN, f32::from_bits(0x7f80_0001), f32::INFINITY, f32::NEG_INFINITY] {
+        refuse(4, 7, 5, good.clone(), threshold, 106);
+        refuse(4, 7, 5, good.clone(), threshold, 0);
+    }
+    for worklist in [0, 1, 104, 105] {
+        refuse(5, 7, 5, good.clone(), 0.0, worklist);
+    }
+}
+
+fn centers(calls: &mut Calls) {
+    let large = 1 << 24;
+    for (sum_x, sum_y, count) in [(0, 0, 0), (large, 0, 1), (0, large, 1), (0, 0, large), (u64::MAX, 0, 1), (5, 5, u64::MAX)] {
+        let lent: [f32; 2] = calls.floats(2).try_into().unwrap();
+        calls.refuse("cluster_center", 15, lent, |center| c::cluster_center(sum_x, sum_y, count, center));
+    }
+}
+
+/// Longer outputs than a list or the clusters need: what lies beyond stays, and a refused row is zero but for its number.
+fn beyond_the_answer(calls: &mut Calls) -> u64 {
+    let plane = [90u8; 400];
+    let bad = bad_quads();
+    let mut accepted = 0;
+    for extra in 0..30 {
+        let quads: Vec<f32> = bad.iter().flat_map(|(_, quad)| *quad).collect();
+        let (rows, corners) = (calls.longs(3 * bad.len() + extra), calls.floats(8 * bad.len() + extra));
+        let (mut rows_after, mut corners_after) = (rows.clone(), corners.clone());
+        assert_eq!(c::try_decode_quads_in(&plane, 20, 20, 3, &quads, &mut rows_after, &mut corners_after), 0);
+        let expected: Vec<u64> = bad.iter().flat_map(|&(number, _)| [number as u64, 0, 0]).collect();
+        assert_eq!(rows_after[..expected.len()], expected);
+        assert_eq!(rows_after[expected.len()..], rows[expected.len()..]);
+        assert!(corners_after[..quads.len()].iter().all(|number| number.to_bits() == 0));
+        assert_eq!(corners_after[quads.len()..].to_vec().bits(), corners[quads.len()..].to_vec().bits());
+
+        let mut response = vec![0.0; 15];
+        response[5..10].copy_from_slice(&[-2.0, -2.0, 0.0, -2.0, 0.0]);
+        let (rows, mut worklist, mut total) = (calls.longs(extra), calls.ints(46), 0);
+        let mut rows_after = rows.clone();
+        assert_eq!(c::init_saddle_clusters(&mut response, 5, 3, -1.0, &mut worklist, &mut rows_after, &mut total), 0);
+        let written = (extra / 3 * 3).min(6);
+        assert_eq!(total, 2);
+        assert_eq!(rows_after[..written], [1, 2, 2, 3, 1, 1][..written]);
+        assert_eq!(rows_after[written..], rows[written..]);
+        accepted += 2;
+    }
+    accepted
+}

@@ -1,0 +1,72 @@
+/* Paints a tag, reads it from all four starts, and finds the saddle points of a small picture, with the C interface of Muosleap.
+
+   From the root of the repository, after `rt staticlib muosleap_c`:
+
+       cc -I include tools/host/examples/read.c -L target/staticlib -lmuosleap_c -o target/read && target/read
+*/
+#include <stdint.h>
+#include <stdio.h>
+#include <stdlib.h>
+
+#include "muosleap.h"
+
+enum { T36H11 = 3, WIDTH = 160, HEIGHT = 120, SIDE = 32 };
+
+/* Ends the program where a call is refused. A refused call has written nothing. */
+static void accepted(const char *call, uint32_t refusal)
+{
+    if (refusal != 0) {
+        fprintf(stderr, "%s: refusal %u\n", call, (unsigned)refusal);
+        exit(1);
+    }
+}
+
+/* Paints the code 0xd5d628584, tag 0 of T36H11, 8 pixels a module, and reads it. */
+static void read_painted_tag(void)
+{
+    static uint8_t picture[WIDTH * HEIGHT];
+    float quad[8], started[8], corners[8];
+    size_t id = 0;
+    uint8_t turn = 0;
+
+    accepted("paint", muosleap_paint_tag_in(picture, sizeof picture, WIDTH, HEIGHT, T36H11, 0xd5d628584,
+                                            /* place */ 40, 20, /* cell */ 8, /* turn */ 0, /* light, dark */ 220, 30, quad));
+    for (int start = 0; start < 4; start++) {
+        for (int k = 0; k < 8; k++)
+            started[k] = quad[(k + 2 * start) % 8];
+        accepted("read", muosleap_try_decode_quad_in(picture, sizeof picture, WIDTH, HEIGHT, T36H11, started, &id, &turn, corners));
+        printf("start %d: tag %zu, turn %u, first corner of the print (%.1f, %.1f)\n", start, id, (unsigned)turn,
+               corners[6], corners[7]);
+    }
+}
+
+/* Four squares that meet in one point: picture to clusters. */
+static void find_saddle_point(void)
+{
+    static float picture[SIDE * SIDE], between[SIDE * SIDE], blurred[SIDE * SIDE], response[SIDE * SIDE];
+    static uint32_t worklist[3 * SIDE * SIDE + 1];
+    const float weights[5] = {0.0625f, 0.25f, 0.375f, 0.25f, 0.0625f};
+    const size_t count = SIDE * SIDE;
+    uint64_t rows[3 * 8];
+    size_t total = 0;
+    float threshold = 0, center[2];
+
+    for (int i = 0; i < SIDE * SIDE; i++)
+        picture[i] = (i % SIDE < SIDE / 2) == (i / SIDE < SIDE / 2) ? 1.0f : 0.0f;
+    accepted("blur", muosleap_gaussian_blur_f32(picture, count, SIDE, SIDE, weights, 5, between, count, blurred, count));
+    accepted("response", muosleap_hessian_response(blurred, count, SIDE, SIDE, response, count));
+    accepted("threshold", muosleap_response_threshold(response, count, SIDE, SIDE, &threshold));
+    accepted("clusters", muosleap_init_saddle_clusters(response, count, SIDE, SIDE, threshold, worklist, 3 * count + 1,
+                                                       rows, 3 * 8, &total));
+    for (size_t i = 0; i < total && i < 8; i++) {
+        accepted("centre", muosleap_cluster_center(rows[3 * i], rows[3 * i + 1], rows[3 * i + 2], center));
+        printf("saddle point at (%.1f, %.1f), from %u samples\n", center[0], center[1], (unsigned)rows[3 * i + 2]);
+    }
+}
+
+int main(void)
+{
+    read_painted_tag();
+    find_saddle_point();
+    return 0;
+}

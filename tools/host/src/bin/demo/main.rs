@@ -1,0 +1,125 @@
+//! The demo: paints a sheet of tags on a picture of camera size, finds its corners, reads every tag from all four starts, and
+//! writes a table and pictures.
+
+mod camera;
+mod drawing;
+mod png;
+
+use camera::Camera;
+use muosleap::image_util::{Saddles, kernel, to_unit};
+use muosleap::{Family, Point, Quad, Refusal, Shape, Tag};
+use std::error::Error;
+use std::path::PathBuf;
+use std::time::{Duration, Instant};
+
+/// The family on the sheet.
+const FAMILY: Family = Family::T36H11;
+
+/// Tags in a row and in a column.
+const SIDE: usize = 6;
+
+fn main() -> Result<(), Box<dyn Error>> {
+    let options = Options::read()?;
+    let camera = Camera::photograph(options.noise, options.smear)?;
+    let mut saddles = Saddles::new(camera.shape);
+    let found = Found::read(&camera, &mut saddles)?;
+    print_summary(&options, &camera, &found);
+    print_table(&found.rows);
+    drawing::draw(&camera, &saddles, &found.quads, &found.rows).write(&camera, &options.folder)?;
+    Ok(())
+}
+
+/// What a picture shows.
+struct Found {
+    clusters: usize,
+    /// Each tag's quad, from the clusters.
+    quads: Vec<Quad>,
+    /// A row for each of the four starts of each quad.
+    rows: Vec<Result<Tag, Refusal>>,
+    /// How long the clusters and the rows took.
+    times: [Duration; 2],
+}
+
+impl Found {
+    /// The main job: picture to clusters to centres, and quads to rows.
+    fn read(camera: &Camera, saddles: &mut Saddles) -> Result<Found, Refusal> {
+        let samples = to_unit(&camera.picture);
+        let start = Instant::now();
+        let clusters = saddles.find(&samples, &kernel(1.5))?;
+        let clustered = start.elapsed();
+        let centers: Vec<Point> = clusters.iter().map(|cluster| cluster.center()).collect::<Result<_, _>>()?;
+        let quads: Vec<Quad> = camera.quads.iter().map(|quad| near(quad, &centers)).collect();
+        let starts: Vec<Quad> = quads.iter().flat_map(|&quad| (0..4).map(move |start| quad.started(start))).collect();
+        let start = Instant::now();
+        let rows = FAMILY.try_decode_quads(&camera.picture, camera.shape, &starts)?;
+        Ok(Found { clusters: clusters.len(), quads, rows, times: [clustered, start.elapsed()] })
+    }
+}
+
+fn print_summary(options: &Options, camera: &Camera, found: &Found) {
+    let Shape { width, height } = camera.shape;
+    let misprinted = camera::MISPRINTED.map(|(id, _)| id.to_string()).join(" and ");
+    let [clustered, read] = found.times.map(|time| time.as_secs_f64() * 1e3);
+    let corners = |quads: &[Quad]| quads.iter().flat_map(|quad| quad.corners).collect::<Vec<Point>>();
+    let away = corners(&found.quads).into_iter().zip(corners(&camera.quads)).map(|(p, q)| distance(p, q)).fold(0.0, f32::max);
+    println!("A sheet of {SIDE} x {SIDE} tags of {FAMILY:?} on a picture of {width} x {height} pixels, with noise of about");
+    println!("{} levels. Tags {misprinted} have misprinted modules.\n", options.noise);
+    println!("Picture to clusters: {} clusters in {clustered:.1} ms (blur, response, threshold, clusters).", found.clusters);
+    println!("Each tag's corners are the cluster centres nearest to where they were painted, at most {away:.2} pixel away.");
+    println!("Quads to tags: {} quads in {read:.2} ms, each tag from all four starts.\n", found.rows.len());
+}
+
+/// What the command line says.
+struct Options {
+    folder: PathBuf,
+    noise: usize,
+    smear: Option<usize>,
+}
+
+impl Options {
+    fn read() -> Result<Options, Box<dyn Error>> {
+        let mut options = Options { folder: PathBuf::from("target/demo"), noise: 6, smear: None };
+        let mut words = std::env::args().skip(1);
+        while let Some(word) = words.next() {
+            let mut number = || words.next().and_then(|word| word.parse().ok()).ok_or(format!("{word} takes a number"));
+            match word.as_str() {
+                "--noise" => options.noise = number()?,
+                "--smear" => options.smear = Some(number()?).filter(|&tag| tag < SIDE * SIDE),
+                _ if word.starts_with('-') => return Err("usage: demo [FOLDER] [--noise LEVELS] [--smear TAG]".into()),
+                folder => options.folder = PathBuf::from(folder),
+            }
+        }
+        Ok(options)
+    }
+}
+
+fn distance(p: Point, q: Point) -> f32 {
+    (p.x - q.x).hypot(p.y - q.y)
+}
+
+/// The cluster centres nearest to a quad's corners. (A host finds its quads by a search over the centres, as the original does.)
+fn near(quad: &Quad, centers: &[Point]) -> Quad {
+    let nearest =
+        |corner: Point| *centers.iter().min_by(|p, q| distance(**p, corner).total_cmp(&distance(**q, corner))).unwrap_or(&corner);
+    Quad { corners: quad.corners.map(nearest) }
+}
+
+/// One line for each tag: its id, the turn that each start gives, and its corners.
+fn print_table(rows: &[Result<Tag, Refusal>]) {
+    println!("  painted | read as | turn at start | corners in print order: fourth, third, second, first (x, y)");
+    println!("  tag     | tag     | 0   1   2   3 |");
+    println!("  --------|---------|---------------|{}", "-".repeat(66));
+    let mut refusals: Vec<Refusal> = Vec::new();
+    for (painted, four) in rows.chunks(4).enumerate() {
+        let turns: Vec<String> = four.iter().map(|row| row.map_or("-".into(), |tag| tag.turn.to_string())).collect();
+        let (read, corners) = match four[0] {
+            Ok(tag) => (tag.id.to_string(), tag.corners.corners.map(|p| format!("({:6.1}, {:6.1})", p.x, p.y)).join(" ")),
+            Err(refusal) => ("-".into(), format!("refusal {}", refusal.number())),
+        };
+        println!("  {painted:>7} | {read:>7} | {} | {corners}", turns.join("   "));
+        refusals.extend(four.iter().filter_map(|row| row.err()));
+    }
+    println!("  {} of {} rows read.", rows.iter().filter(|row| row.is_ok()).count(), rows.len());
+    refusals.dedup();
+    refusals.iter().for_each(|refusal| println!("  {refusal}"));
+}

@@ -1,0 +1,204 @@
+//! Words, levels and quads.
+
+use crate::refusal::accepted;
+use crate::{Family, Quad, Refusal, Shape, Table, c};
+
+/// What a word shows.
+#[derive(Clone, Copy, PartialEq, Eq, Debug)]
+pub struct Found {
+    /// The code's position in the table.
+    pub id: usize,
+    /// How often the word was turned to meet the code, 0 to 3.
+    pub turn: u8,
+}
+
+/// A tag that was read.
+#[derive(Clone, Copy, PartialEq, Debug)]
+pub struct Tag {
+    /// The tag's number: its code's position in the table.
+    pub id: usize,
+    /// How the quad was begun: turns from the quad's first corner to the print's, 0 to 3.
+    pub turn: u8,
+    /// The quad's corners in print order, whatever corner the quad began with.
+    pub corners: Quad,
+}
+
+/// A word of edge² bits, turned once. Refusal 6 for an edge outside 1 to 8.
+///
+/// ```
+/// use muosleap::{Refusal, detector::rotate_bits};
+///
+/// assert_eq!(rotate_bits(0x231B, 4), Ok(0x7D01));
+/// assert_eq!(rotate_bits(0x231B, 9), Err(Refusal::BadTable));
+/// ```
+pub fn rotate_bits(bits: u64, edge: u8) -> Result<u64, Refusal> {
+    let mut word = 0;
+    accepted(c::rotate_bits(bits, edge, &mut word))?;
+    Ok(word)
+}
+
+/// The bits that 1 to 64 levels show: 1 above the middle between the least and the greatest, the first level as the highest bit.
+/// A level nearer to the middle than `band` is unsure. Refusals 15, 11, 12.
+///
+/// ```
+/// use muosleap::{Refusal, detector::bit_code};
+///
+/// assert_eq!(bit_code(&[200, 30, 190, 40], 10, 0), Ok(0b1010));
+/// assert_eq!(bit_code(&[0, 49], 10, 0), Err(Refusal::LowContrast));
+/// assert_eq!(bit_code(&[0, 51, 17, 35], 10, 1), Err(Refusal::UnsureModules));
+/// ```
+pub fn bit_code(levels: &[u8], band: u8, allowed: u32) -> Result<u64, Refusal> {
+    let mut word = 0;
+    accepted(c::bit_code(levels, band, allowed, &mut word))?;
+    Ok(word)
+}
+
+impl Table<'_> {
+    /// The code that a word shows: turns 0 to 3, in each the nearest code, the first turn that has one nearer than the match
+    /// threshold. The border plays no part. Refusals 6, 13.
+    ///
+    /// ```
+    /// use muosleap::{Family, Found, Refusal};
+    ///
+    /// let table = Family::T16H5.table();
+    /// assert_eq!(table.best_tag(0x231B), Ok(Found { id: 0, turn: 0 }));
+    /// assert_eq!(table.best_tag(0x7D01), Ok(Found { id: 0, turn: 3 }));
+    /// assert_eq!(table.best_tag(0x231A), Err(Refusal::NoCode));
+    /// ```
+    pub fn best_tag(&self, bits: u64) -> Result<Found, Refusal> {
+        let (mut id, mut turn) = (0, 0);
+        accepted(c::best_tag(bits, self.hamming_distance, self.codes, self.edge, &mut id, &mut turn))?;
+        Ok(Found { id, turn })
+    }
+
+    /// Whether every word that is near a code is near one code only, and in one turn. Check a list of your own once, before its
+    /// first use: the readers do not. Refusals 6, 7.
+    ///
+    /// ```
+    /// use muosleap::{Refusal, Table};
+    ///
+    /// // 0x231B and 0x7D01 are one tag and the same tag turned.
+    /// let table = Table { edge: 4, border: 2, hamming_distance: 1, codes: &[0x231B, 0x7D01] };
+    /// assert_eq!(table.check_likeness(), Err(Refusal::CodesAlike));
+    /// ```
+    pub fn check_likeness(&self) -> Result<(), Refusal> {
+        accepted(c::check_likeness(self.edge, self.border, self.hamming_distance, self.codes))
+    }
+
+    /// Reads the tag in a quad of a picture. Refusals 1, 6, 8 to 13.
+    ///
+    /// ```
+    /// use muosleap::{Quad, Refusal, Shape, Table};
+    ///
+    /// let table = Table { edge: 4, border: 1, hamming_distance: 1, codes: &[0x231B] };
+    /// let shape = Shape { width: 20, height: 20 };
+    /// let quad = Quad::from([0.5, 0.5, 18.5, 0.5, 18.5, 18.5, 0.5, 18.5]);
+    /// assert_eq!(table.try_decode_quad(&[128; 400], shape, &quad), Err(Refusal::LowContrast));
+    /// assert_eq!(table.try_decode_quad(&[128; 399], shape, &quad), Err(Refusal::PlaneSize));
+    /// ```
+    pub fn try_decode_quad(&self, plane: &[u8], shape: Shape, quad: &Quad) -> Result<Tag, Refusal> {
+        let (mut id, mut turn, mut corners) = (0, 0, [0.0; 8]);
+        accepted(c::try_decode_quad(
+            plane,
+            shape.width,
+            shape.height,
+            self.edge,
+            self.border,
+            self.hamming_distance,
+            self.codes,
+            &(*quad).into(),
+            &mut id,
+            &mut turn,
+            &mut corners,
+        ))?;
+        Ok(Tag { id, turn, corners: corners.into() })
+    }
+
+    /// Reads a list of quads: for each quad its tag, or why it was refused (8 to 13). The call's own refusals: 1, 6, 16.
+    pub fn try_decode_quads(&self, plane: &[u8], shape: Shape, quads: &[Quad]) -> Result<Vec<Result<Tag, Refusal>>, Refusal> {
+        listed(quads, |quads, rows, corners| {
+            c::try_decode_quads(
+                plane,
+                shape.width,
+                shape.height,
+                self.edge,
+                self.border,
+                self.hamming_distance,
+                self.codes,
+                quads,
+                rows,
+                corners,
+            )
+        })
+    }
+}
+
+impl Family {
+    /// Reads the tag in a quad of a picture. Refusals 1, 8 to 13.
+    ///
+    /// ```
+    /// use muosleap::{Family, Print, Refusal, Shape};
+    ///
+    /// let (family, shape) = (Family::T25H9, Shape { width: 50, height: 40 });
+    /// let mut picture = vec![0; shape.len()];
+    /// let print = Print { x: 3, y: 2, cell: 3, turn: 0, light: 200, dark: 20 };
+    /// let quad = family.paint_tag(&mut picture, shape, family.codes()[34], &print)?;
+    /// let tag = family.try_decode_quad(&picture, shape, &quad)?;
+    /// assert_eq!((tag.id, tag.turn), (34, 0));
+    /// // Another family does not know it.
+    /// assert_eq!(Family::T25H7.try_decode_quad(&picture, shape, &quad), Err(Refusal::NoCode));
+    /// # Ok::<(), Refusal>(())
+    /// ```
+    pub fn try_decode_quad(self, plane: &[u8], shape: Shape, quad: &Quad) -> Result<Tag, Refusal> {
+        let (mut id, mut turn, mut corners) = (0, 0, [0.0; 8]);
+        let quad = (*quad).into();
+        accepted(c::try_decode_quad_in(
+            plane,
+            shape.width,
+            shape.height,
+            self.number(),
+            &quad,
+            &mut id,
+            &mut turn,
+            &mut corners,
+        ))?;
+        Ok(Tag { id, turn, corners: corners.into() })
+    }
+
+    /// Reads a list of quads: for each quad its tag, or why it was refused (8 to 13). The call's own refusals: 1, 16.
+    ///
+    /// ```
+    /// use muosleap::{Family, Print, Quad, Refusal, Shape};
+    ///
+    /// let (family, shape) = (Family::T16H5, Shape { width: 40, height: 40 });
+    /// let mut picture = vec![0; shape.len()];
+    /// let print = Print { x: 4, y: 4, cell: 4, turn: 0, light: 200, dark: 20 };
+    /// let quad = family.paint_tag(&mut picture, shape, family.codes()[9], &print)?;
+    /// let outside = Quad::from([0.0, 0.0, 40.0, 0.0, 40.0, 40.0, 0.0, 40.0]);
+    /// let rows = family.try_decode_quads(&picture, shape, &[quad, outside])?;
+    /// assert_eq!(rows[0].unwrap().id, 9);
+    /// assert_eq!(rows[1], Err(Refusal::CornerOutside));
+    /// # Ok::<(), Refusal>(())
+    /// ```
+    pub fn try_decode_quads(self, plane: &[u8], shape: Shape, quads: &[Quad]) -> Result<Vec<Result<Tag, Refusal>>, Refusal> {
+        listed(quads, |quads, rows, corners| {
+            c::try_decode_quads_in(plane, shape.width, shape.height, self.number(), quads, rows, corners)
+        })
+    }
+}
+
+/// Lends the list's numbers and outputs of their length to `read`, and takes the rows apart.
+fn listed(
+    quads: &[Quad],
+    read: impl FnOnce(&[f32], &mut [u64], &mut [f32]) -> u32,
+) -> Result<Vec<Result<Tag, Refusal>>, Refusal> {
+    let numbers: Vec<[f32; 8]> = quads.iter().map(|&quad| quad.into()).collect();
+    let mut rows = vec![[0u64; 3]; quads.len()];
+    let mut corners = vec![[0f32; 8]; quads.len()];
+    accepted(read(numbers.as_flattened(), rows.as_flattened_mut(), corners.as_flattened_mut()))?;
+    let read = |([refusal, id, turn], corners): ([u64; 3], [f32; 8])| {
+        accepted(refusal as u32)?;
+        Ok(Tag { id: id as usize, turn: turn as u8, corners: corners.into() })
+    };
+    Ok(rows.into_iter().zip(corners).map(read).collect())
+}

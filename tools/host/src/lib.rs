@@ -1,0 +1,51 @@
+//! Muosleap for Rust programs: reads the square tags of a printed sheet in a camera picture.
+//!
+//! Every call goes to `libmuosleap_c.a`, which is compiled from code that is proved against its definition for all inputs. This
+//! crate adds types: a refusal with a name and a sentence instead of a number, small structs for planes, points, quads and
+//! tables. It also has the few host parts that the proved code leaves to Rust: [`image_util::kernel`], [`image_util::to_unit`].
+//!
+//! - [`detector`]: words, levels and quads, by [`Family`] or by a [`Table`] of your own.
+//! - [`image_util`]: blur, response, threshold, clusters and their centres.
+//! - [`painter`]: paints a tag. [`sheet`]: a grid of them, in Rust over the painter.
+//! - [`c`]: the C interface as it crosses, for hosts that keep their own buffers.
+//!
+//! ```
+//! use muosleap::{Family, Print, Shape};
+//!
+//! // Paint tag 7 of the family T36H11, 5 pixels a module, in a picture of 80 × 60 pixels.
+//! let shape = Shape { width: 80, height: 60 };
+//! let mut picture = vec![0; shape.len()];
+//! let print = Print { x: 12, y: 4, cell: 5, turn: 0, light: 220, dark: 30 };
+//! let family = Family::T36H11;
+//! let quad = family.paint_tag(&mut picture, shape, family.codes()[7], &print)?;
+//!
+//! // Read it again, starting at its second corner.
+//! let tag = family.try_decode_quad(&picture, shape, &quad.started(1))?;
+//! assert_eq!((tag.id, tag.turn), (7, 3));
+//! # Ok::<(), muosleap::Refusal>(())
+//! ```
+
+#![deny(unsafe_code)]
+#![warn(missing_docs)]
+
+#[allow(unsafe_code)]
+pub mod c;
+pub mod detector;
+pub mod image_util;
+pub mod painter;
+mod points;
+mod refusal;
+pub mod sheet;
+mod tables;
+
+pub use detector::{Found, Tag};
+pub use image_util::Cluster;
+pub use painter::Print;
+pub use points::{Point, Quad, Shape};
+pub use refusal::{NoRefusal, REFUSALS, Refusal};
+pub use tables::{FAMILIES, Family, Table};
+
+/// The README's example compiles.
+#[cfg(doctest)]
+#[doc = include_str!("../README.md")]
+struct Readme;

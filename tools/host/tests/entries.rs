@@ -1,0 +1,112 @@
+//! The wrappers themselves: every refusal can be met through them under its own name, and families and tables agree.
+
+use muosleap::detector::{bit_code, rotate_bits};
+use muosleap::image_util::{Saddles, gaussian_blur_f32, hessian_response, init_saddle_clusters, kernel, response_threshold};
+use muosleap::painter::paint_tag;
+use muosleap::{Cluster, FAMILIES, Family, Print, Quad, REFUSALS, Refusal, Shape, Table};
+
+const SHAPE: Shape = Shape { width: 20, height: 20 };
+const PRINT: Print = Print { x: 1, y: 1, cell: 2, turn: 0, light: 200, dark: 20 };
+
+/// A picture of T16H5's first tag, and its quad.
+fn painted() -> (Vec<u8>, Quad) {
+    let mut plane = vec![0; SHAPE.len()];
+    let quad = Family::T16H5.paint_tag(&mut plane, SHAPE, 0x231B, &PRINT).unwrap();
+    (plane, quad)
+}
+
+fn quad(corner: f32) -> Quad {
+    Quad::from([0.0, 0.0, corner, 0.0, corner, corner, 0.0, corner])
+}
+
+#[test]
+fn every_refusal_is_met() {
+    let (plane, tag) = painted();
+    let read = |plane: &[u8], quad: Quad| Family::T16H5.try_decode_quad(plane, SHAPE, &quad).map(|_| ());
+    let unsure: Vec<u8> = plane.iter().enumerate().map(|(k, &shade)| if k % 3 == 0 { 108 } else { shade }).collect();
+    let other: Vec<u8> = (0..400).map(|k| if k % 20 < 10 { 0 } else { 255 }).collect();
+    let flat = vec![0.5; 9];
+    let square = Shape { width: 3, height: 3 };
+    let (mut temp, mut out) = (flat.clone(), flat.clone());
+    let clusters = |threshold: f32, worklist: usize| {
+        init_saddle_clusters(&mut flat.clone(), square, threshold, &mut vec![0; worklist], &mut [])
+    };
+    let alike = Table { edge: 4, border: 2, hamming_distance: 2, codes: &[0x231B, 0x231B] };
+    let met = [
+        read(&plane[1..], tag),
+        gaussian_blur_f32(&flat, square, &kernel(3.6), &mut temp, &mut out),
+        hessian_response(&[f32::NAN; 9], square, &mut out),
+        clusters(f32::INFINITY, 28).map(|_| ()),
+        clusters(0.0, 27).map(|_| ()),
+        rotate_bits(0, 0).map(|_| ()),
+        alike.check_likeness(),
+        read(&plane, quad(f32::NAN)),
+        read(&plane, quad(19.5)),
+        read(&plane, Quad::from([19.5 - 1.0 / 4_096.0; 8])),
+        read(&[90; 400], tag),
+        read(&unsure, tag),
+        read(&other, tag),
+        paint_tag(&mut [0; 400], SHAPE, 4, 2, 0x231B, &Print { cell: 3, ..PRINT }).map(|_| ()),
+        bit_code(&[], 10, 3).map(|_| ()),
+        Family::T16H5.try_decode_quads(&plane, SHAPE, &vec![tag; 1_025]).map(|_| ()),
+    ];
+    assert_eq!(met, REFUSALS.map(Err));
+}
+
+#[test]
+fn refusals_have_numbers_and_texts_of_their_own() {
+    for (k, refusal) in REFUSALS.into_iter().enumerate() {
+        assert_eq!(refusal.number() as usize, k + 1);
+        assert_eq!(Refusal::try_from(refusal.number()), Ok(refusal));
+        assert!(refusal.to_string().starts_with(&format!("refusal {}: ", k + 1)));
+        assert!(REFUSALS.iter().all(|other| *other == refusal || other.reason() != refusal.reason()));
+    }
+    assert!(Refusal::try_from(0).is_err() && Refusal::try_from(17).is_err());
+}
+
+#[test]
+fn families_are_their_tables() {
+    for family in FAMILIES {
+        let table = family.table();
+        let side = 2 * (table.edge + 2 * table.border) as usize + 3;
+        let shape = Shape { width: side, height: side };
+        let mut plane = vec![0; shape.len()];
+        let id = table.codes.len() - 1;
+        let quad = paint_tag(&mut plane, shape, table.edge, table.border, table.codes[id], &PRINT).unwrap();
+        let mut again = vec![0; shape.len()];
+        assert_eq!(family.paint_tag(&mut again, shape, table.codes[id], &PRINT), Ok(quad));
+        assert_eq!(plane, again);
+        for start in 0..4 {
+            let tag = family.try_decode_quad(&plane, shape, &quad.started(start)).unwrap();
+            assert_eq!((tag.id, tag.turn as usize), (id, (4 - start) % 4));
+            assert_eq!(table.try_decode_quad(&plane, shape, &quad.started(start)), Ok(tag));
+        }
+        assert_eq!(table.check_likeness(), Ok(()));
+    }
+}
+
+#[test]
+fn a_list_has_a_row_for_each_quad() {
+    let (plane, tag) = painted();
+    let list = [tag, quad(19.5), tag.started(2), quad(f32::INFINITY)];
+    let rows = Family::T16H5.try_decode_quads(&plane, SHAPE, &list).unwrap();
+    let alone: Vec<_> = list.iter().map(|quad| Family::T16H5.try_decode_quad(&plane, SHAPE, quad)).collect();
+    assert_eq!(rows, alone);
+    assert_eq!(Family::T16H5.table().try_decode_quads(&plane, SHAPE, &list).unwrap(), alone);
+    assert_eq!(Family::T16H5.try_decode_quads(&plane, SHAPE, &[]), Ok(vec![]));
+}
+
+#[test]
+fn saddles_can_be_used_again() {
+    let shape = Shape { width: 40, height: 30 };
+    let picture: Vec<f32> = (0..shape.len()).map(|i| ((i % 40 < 17) == (i / 40 < 13)) as u8 as f32).collect();
+    let mut saddles = Saddles::new(shape);
+    let first = saddles.find(&picture, &kernel(1.5)).unwrap();
+    assert_eq!(saddles.find(&vec![0.25; shape.len()], &kernel(1.5)), Ok(vec![]));
+    assert_eq!(saddles.find(&picture, &kernel(1.5)), Ok(first.clone()));
+    let center = first[0].center().unwrap();
+    assert_eq!((first.len(), center.x, center.y), (1, 16.5, 12.5));
+    assert_eq!(saddles.find(&picture[1..], &kernel(1.5)), Err(Refusal::PlaneSize));
+    assert_eq!(response_threshold(&[0.0, -1.0], Shape { width: 2, height: 1 }), Ok(-0.05));
+    assert_eq!(Cluster::from([1 << 24, 0, 1]).center(), Err(Refusal::Count));
+}
