@@ -2,8 +2,8 @@
 // document 01, and then calls the core below.
 // Quad to tag: codes, levels, one quad; lists of quads; the painter.
 pub mod detector;
-pub mod quads;
 pub mod painting;
+pub mod quads;
 
 // Picture to clusters: blur, response, threshold; clusters and their centres.
 pub mod image_util;
