@@ -12,7 +12,7 @@ mul-result : tie.Need-mul-result
 mul-result c = omega (arith, mul-le-mul (c .if1 .left) (c .if1 .left))
 
 returns-2 : tie.Need-returns-2
-returns-2 c = omega (arith, mul-le-mul (c .before .if1 .left) (c .before .if1 .left))
+returns-2 c = omega (arith, mul-le-mul (c .if1 .left) (c .if1 .left))
 
 pub area-spec : {M : Type 1} → statement M
 area-spec = tie.close (tie.spec returns mul-result returns-2)
