@@ -1,6 +1,7 @@
 /* Paints a tag, reads it from all four starts, and finds the saddle points of a small picture, with the C interface of Muosleap.
 
-   From the root of the repository, after `rt staticlib muosleap_c`:
+   Every buffer is initialized before it is lent, outputs too, as the header asks. From the root of the repository, after
+   `rt staticlib muosleap_c`:
 
        cc -I include tools/host/examples/read.c -L target/staticlib -lmuosleap_c -o target/read && target/read
 */
@@ -25,7 +26,7 @@ static void accepted(const char *call, uint32_t refusal)
 static void read_painted_tag(void)
 {
     static uint8_t picture[WIDTH * HEIGHT];
-    float quad[8], started[8], corners[8];
+    float quad[8] = {0}, started[8] = {0}, corners[8] = {0};
     size_t id = 0;
     uint8_t turn = 0;
 
@@ -47,9 +48,9 @@ static void find_saddle_point(void)
     static uint32_t worklist[3 * SIDE * SIDE + 1];
     const float weights[5] = {0.0625f, 0.25f, 0.375f, 0.25f, 0.0625f};
     const size_t count = SIDE * SIDE;
-    uint64_t rows[3 * 8];
+    uint64_t rows[3 * 8] = {0};
     size_t total = 0;
-    float threshold = 0, center[2];
+    float threshold = 0, center[2] = {0};
 
     for (int i = 0; i < SIDE * SIDE; i++)
         picture[i] = (i % SIDE < SIDE / 2) == (i / SIDE < SIDE / 2) ? 1.0f : 0.0f;

@@ -3,7 +3,7 @@
 //! has written its outputs only then. Use it where the host keeps its own buffers; the rest of the crate is built on it.
 //!
 //! This is the only module with `unsafe`. What the C functions ask of every caller holds by the types: a slice's or a reference's
-//! pointer is aligned and not null, also for a count of 0; its memory is readable, and writable behind `&mut`, for the whole call;
+//! pointer is aligned and not null, also for a count of 0; its memory is initialized, and writable behind `&mut`, for the whole call;
 //! and borrows keep a buffer that is written from overlapping any other. The archive is built from proved code, which reads and
 //! writes within the counts only.
 
