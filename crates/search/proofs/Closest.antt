@@ -1,71 +1,18 @@
--- What `fewest` and `firstAt` give: no code is nearer, and none before the position is as near. Assumes nothing.
-use mathlib.Core.Path.{_≡_, refl, sym, ap, ap₂, _∙_, subst}
-use mathlib.Core.Logic.{_⊎_, inl, inr}
+-- What `fewest` and `firstAt` give: no code is nearer, and none before the position is as near. And the same of codes in front and
+-- the rest of them, for a search that goes by blocks. Assumes nothing.
+use mathlib.Core.Path.{_≡_, refl, sym, ap, _∙_, subst}
 use mathlib.Core.Bool.{Bool, true, false, cond}
 use mathlib.Core.List.{List, [], _∷_}
 use Prim.Native.Nat.{ℕ, zero, suc, _+_, min, _≤_, _<_, suc-le-suc}
-use native.Mathlib.Nat.{le-refl, le-trans, not-suc-le-zero, le-of-suc-le-suc, zero-lt-suc, min-le-left, min-le-right, le-min, min-eq-left, min-eq-right, le-antisymm, le-of-lt, eq-or-lt-of-le}
+use native.Mathlib.Nat.{le-refl, le-trans, not-suc-le-zero, le-of-suc-le-suc, zero-lt-suc, min-le-left, min-le-right, le-min, min-eq-left, min-eq-right, le-of-lt, le-antisymm, zero-add, suc-add}
 use native.Mathlib.Omega.{arith}
 use borrow.Author.Tests.{eq-eqb, ne-eqb, eqb-true, eqb-false, leb-true, leb-false}
-use lib.ListN.{length, getD}
+use lib.ListN.{length, getD, take, drop, drop-of-length-le}
+use lib.Seq.{drop-cons}
 use lib.Dec.{leb, eqb}
 use Rattle.word.specs.Word.{differing}
 use Rattle.word.proofs.Differing.{differing-le}
 use Rattle.search.specs.Search.{fewest, firstAt}
-
--- of the first n codes none is nearer to w than d, and the one at id, if any, is the first that is as near
-pub record Closest (w : ℕ) (codes : List ℕ) (n id d : ℕ) : Type 0 where
-  pub least : (k : ℕ) → k < n → d ≤ differing w (getD codes k 0)
-  pub first : (k : ℕ) → k < id → d < differing w (getD codes k 0)
-  pub here : ((n ≡ 0) × (id ≡ 0) × (d ≡ 65)) ⊎ ((id < n) × (d ≡ differing w (getD codes id 0)))
-
-module _ (w : ℕ) (codes : List ℕ) where
-  pub none-yet : Closest w codes 0 0 65
-  none-yet = record { least = λ k h. absurd (not-suc-le-zero h); first = λ k h. absurd (not-suc-le-zero h); here = inl (refl, refl, refl) }
-
-  -- one code more, which is nearer
-  nearer : (n id d : ℕ) → differing w (getD codes n 0) < d → Closest w codes n id d → Closest w codes (n + 1) n (differing w (getD codes n 0))
-  nearer n id d h c = record {
-    least = λ k l. below k (eq-or-before k l);
-    first = λ k l. omega (arith, c .least k l);
-    here = inr (omega arith, refl);
-  }
-    where
-      eq-or-before : (k : ℕ) → k < n + 1 → (k ≡ n) ⊎ (k < n)
-      eq-or-before k l = eq-or-lt-of-le (omega arith)
-
-      below : (k : ℕ) → (k ≡ n) ⊎ (k < n) → differing w (getD codes n 0) ≤ differing w (getD codes k 0)
-      below k (inl e) = subst (λ (j : ℕ). differing w (getD codes n 0) ≤ differing w (getD codes j 0)) (sym e) (le-refl _)
-      below k (inr m) = omega (arith, c .least k m)
-
-  -- one code more, which is not nearer
-  no-nearer : (n id d : ℕ) → d ≤ differing w (getD codes n 0) → Closest w codes n id d → Closest w codes (n + 1) id d
-  no-nearer n id d h c = record {
-    least = λ k l. below k (eq-or-before k l);
-    first = c .first;
-    here = met (c .here);
-  }
-    where
-      eq-or-before : (k : ℕ) → k < n + 1 → (k ≡ n) ⊎ (k < n)
-      eq-or-before k l = eq-or-lt-of-le (omega arith)
-
-      below : (k : ℕ) → (k ≡ n) ⊎ (k < n) → d ≤ differing w (getD codes k 0)
-      below k (inl e) = subst (λ (j : ℕ). d ≤ differing w (getD codes j 0)) (sym e) h
-      below k (inr m) = c .least k m
-
-      met : ((n ≡ 0) × (id ≡ 0) × (d ≡ 65)) ⊎ ((id < n) × (d ≡ differing w (getD codes id 0))) → ((n + 1 ≡ 0) × (id ≡ 0) × (d ≡ 65)) ⊎ ((id < n + 1) × (d ≡ differing w (getD codes id 0)))
-      met (inl p) = absurd (omega (arith, differing-le 64 w (getD codes n 0)))
-      met (inr p) = inr (omega arith, p .1)
-
--- one code more, which differs in x bits: it becomes the closest where x is less
-module _ (w : ℕ) (codes : List ℕ) (n id d id′ d′ x : ℕ) (amount : x ≡ differing w (getD codes n 0)) (c : Closest w codes n id d) where
-  pub taken : x < d → id′ ≡ n → d′ ≡ x → Closest w codes (n + 1) id′ d′
-  taken h p q =
-      subst (λ (y : ℕ). Closest w codes (n + 1) y d′) (sym p) (subst (Closest w codes (n + 1) n) (sym (q ∙ amount)) (nearer w codes n id d (omega arith) c))
-
-  pub passed : d ≤ x → id′ ≡ id → d′ ≡ d → Closest w codes (n + 1) id′ d′
-  passed h p q =
-      subst (λ (y : ℕ). Closest w codes (n + 1) y d′) (sym p) (subst (Closest w codes (n + 1) id) (sym q) (no-nearer w codes n id d (omega arith) c))
 
 pub fewest-le : (w : ℕ) (codes : List ℕ) (k : ℕ) → k < length codes → fewest w codes ≤ differing w (getD codes k 0)
 unfolding fewest
@@ -79,31 +26,76 @@ unfolding fewest
 fewest-is w d [] t h = t
 fewest-is w d (code ∷ codes) t h = le-min (h 0 (zero-lt-suc (length codes))) (fewest-is w d codes t (λ k l. h (suc k) (suc-le-suc l)))
 
-pub first-is : (w d : ℕ) (codes : List ℕ) (id : ℕ) → id < length codes → differing w (getD codes id 0) ≡ d
-    → ((k : ℕ) → k < id → differing w (getD codes k 0) ≡ d → ⊥) → firstAt w d codes ≡ id
+-- ---- codes in front, and the rest
+
+fewest-65 : (w : ℕ) (codes : List ℕ) → fewest w codes ≤ 65
+unfolding fewest
+fewest-65 w [] = le-refl 65
+fewest-65 w (code ∷ codes) = le-trans (min-le-right (differing w code) (fewest w codes)) (fewest-65 w codes)
+
+min-assoc : (a b c : ℕ) → min (min a b) c ≡ min a (min b c)
+min-assoc a b c =
+    le-antisymm
+    (le-min (le-trans (min-le-left (min a b) c) (min-le-left a b)) (le-min (le-trans (min-le-left (min a b) c) (min-le-right a b)) (min-le-right (min a b) c)))
+    (le-min (le-min (min-le-left a (min b c)) (le-trans (min-le-right a (min b c)) (min-le-left b c))) (le-trans (min-le-right a (min b c)) (min-le-right b c)))
+
+-- the fewest of the codes in front and of n more
+pub fewest-take : (w : ℕ) (codes : List ℕ) (i n : ℕ) → fewest w (take (i + n) codes) ≡ min (fewest w (take i codes)) (fewest w (take n (drop i codes)))
+unfolding fewest
+fewest-take w codes zero n = ap (λ (k : ℕ). fewest w (take k codes)) (zero-add n) ∙ sym (min-eq-right (fewest-65 w (take n codes)))
+fewest-take w [] (suc i) zero = ap (λ (k : ℕ). fewest w (take k [])) (suc-add i 0)
+fewest-take w [] (suc i) (suc n) = ap (λ (k : ℕ). fewest w (take k [])) (suc-add i (suc n))
+fewest-take w (code ∷ codes) (suc i) n =
+    ap (λ (k : ℕ). fewest w (take k (code ∷ codes))) (suc-add i n) ∙ ap (min (differing w code)) (fewest-take w codes i n)
+    ∙ sym (min-assoc (differing w code) (fewest w (take i codes)) (fewest w (take n (drop i codes))))
+
+-- and of one more
+pub fewest-one : (w : ℕ) (codes : List ℕ) (i : ℕ) → i < length codes → fewest w (take (i + 1) codes) ≡ min (fewest w (take i codes)) (differing w (getD codes i 0))
+unfolding fewest
+fewest-one w codes i h =
+    fewest-take w codes i 1 ∙ ap (λ (l : List ℕ). min (fewest w (take i codes)) (fewest w (take 1 l))) (drop-cons codes i 0 h)
+    ∙ ap (min (fewest w (take i codes))) (min-eq-left (omega (arith, differing-le 64 w (getD codes i 0))))
+
+pub fewest-front : (w : ℕ) (codes : List ℕ) (i k : ℕ) → k < i → k < length codes → fewest w (take i codes) ≤ differing w (getD codes k 0)
+unfolding fewest
+fewest-front w codes zero k h l = absurd (not-suc-le-zero h)
+fewest-front w [] (suc i) k h l = absurd (not-suc-le-zero l)
+fewest-front w (code ∷ codes) (suc i) zero h l = min-le-left (differing w code) (fewest w (take i codes))
+fewest-front w (code ∷ codes) (suc i) (suc k) h l =
+    le-trans (min-le-right (differing w code) (fewest w (take i codes))) (fewest-front w codes i k (le-of-suc-le-suc h) (le-of-suc-le-suc l))
+
+pub first-le : (w d : ℕ) (codes : List ℕ) → firstAt w d codes ≤ length codes
 unfolding firstAt
-first-is w d [] id l e h = absurd (not-suc-le-zero l)
-first-is w d (code ∷ codes) zero l e h = ap (λ (t : Bool). cond t 0 (suc (firstAt w d codes))) (eq-eqb (differing w code) d e)
-first-is w d (code ∷ codes) (suc id) l e h =
-    ap (λ (t : Bool). cond t 0 (suc (firstAt w d codes))) (ne-eqb (differing w code) d (h 0 (zero-lt-suc id)))
-    ∙ ap suc (first-is w d codes id (le-of-suc-le-suc l) e (λ k m. h (suc k) (suc-le-suc m)))
-
-no-codes : (w id d : ℕ) (codes : List ℕ) → length codes ≡ 0 → id ≡ 0 → d ≡ 65 → (d ≡ fewest w codes) × (id ≡ firstAt w (fewest w codes) codes)
-unfolding fewest firstAt
-no-codes w id d [] n e f = (f, e)
-no-codes w id d (code ∷ codes) n e f = absurd (omega arith)
-
--- what is closest of all codes is what the definitions give
-pub closest-is : (w : ℕ) (codes : List ℕ) (id d : ℕ) → Closest w codes (length codes) id d → (d ≡ fewest w codes) × (id ≡ firstAt w (fewest w codes) codes)
-closest-is w codes id d c = go (c .here)
+first-le w d [] = le-refl 0
+first-le w d (code ∷ codes) = go (first-le w d codes) (eqb (differing w code) d)
   where
-    go : ((length codes ≡ 0) × (id ≡ 0) × (d ≡ 65)) ⊎ ((id < length codes) × (d ≡ differing w (getD codes id 0))) → (d ≡ fewest w codes) × (id ≡ firstAt w (fewest w codes) codes)
-    go (inl p) = no-codes w id d codes (p .0) (p .1) (p .2)
-    go (inr p) =
-        let le : d ≤ fewest w codes = fewest-is w d codes (omega (arith, differing-le 64 w (getD codes id 0), p .1)) (c .least) in
-        let ge : fewest w codes ≤ d = omega (arith, fewest-le w codes id (p .0), p .1) in
-        let e : d ≡ fewest w codes = le-antisymm le ge in
-        (e, sym (first-is w (fewest w codes) codes id (p .0) (sym (p .1) ∙ e) (λ k l q. omega (arith, c .first k l))))
+    go : firstAt w d codes ≤ length codes → (t : Bool) → cond t 0 (suc (firstAt w d codes)) ≤ suc (length codes)
+    go h true = omega arith
+    go h false = suc-le-suc h
+
+module _ (w d : ℕ) (codes : List ℕ) where
+  -- the code at i is the first of those from i on
+  pub first-here : (i : ℕ) → i < length codes → differing w (getD codes i 0) ≡ d → firstAt w d (drop i codes) ≡ 0
+  unfolding firstAt
+  first-here i h e =
+      ap (firstAt w d) (drop-cons codes i 0 h) ∙ ap (λ (t : Bool). cond t 0 (suc (firstAt w d (drop (suc i) codes)))) (eq-eqb (differing w (getD codes i 0)) d e)
+
+  -- or it is not
+  pub first-later : (i : ℕ) → i < length codes → (differing w (getD codes i 0) ≡ d → ⊥) → firstAt w d (drop i codes) ≡ suc (firstAt w d (drop (suc i) codes))
+  unfolding firstAt
+  first-later i h ne =
+      ap (firstAt w d) (drop-cons codes i 0 h) ∙ ap (λ (t : Bool). cond t 0 (suc (firstAt w d (drop (suc i) codes)))) (ne-eqb (differing w (getD codes i 0)) d ne)
+
+  pub first-none : (i : ℕ) → length codes ≤ i → firstAt w d (drop i codes) ≡ 0
+  unfolding firstAt
+  first-none i h = ap (firstAt w d) (drop-of-length-le codes h)
+
+  -- where the codes in front differ in more bits, the first is one of the rest
+  pub first-drop : (i : ℕ) → i ≤ length codes → ((k : ℕ) → k < i → d < differing w (getD codes k 0)) → firstAt w d codes ≡ i + firstAt w d (drop i codes)
+  first-drop zero h more = sym (zero-add (firstAt w d codes))
+  first-drop (suc i) h more =
+      first-drop i (omega arith) (λ k l. more k (omega arith)) ∙ ap (λ (n : ℕ). i + n) (first-later i h (λ e. omega (arith, more i (le-refl (suc i)))))
+      ∙ omega arith
 
 -- ---- the other way: the definitions give what is closest
 

@@ -1,7 +1,7 @@
 // A table: a list of codes, and what a reader has to know of it. Refusal 6 says which tables are taken.
 ghost use mathlib.Core.Path.{_≡_};
 ghost use mathlib.Core.Bool.{Bool, false};
-ghost use Prim.Native.Nat.{_<_, _≤_};
+ghost use Prim.Native.Nat.{_^_, _<_, _≤_};
 ghost use Rattle.lists.specs.Tab.{all};
 ghost use Rattle.tables.specs.Table.{outside, badEdge, badBorder, below, inSquare, badCodes, badTable};
 
@@ -34,16 +34,19 @@ pub fn bad_border(border: u8) -> bool
     is_outside(1, 4, border as usize)
 }
 
-fn all_below(codes: &[u64], limit: u64) -> bool
-    ensures { λ r. ⌜ r ≡ all (below limit) (now (codes .entry)) ⌝ }
+// Every code is below 2^places. Their bits are gathered into one number, which is then below it too: whole words are not
+// compared in vector registers.
+fn all_below(codes: &[u64], places: u64) -> bool
+    requires { ⌜ places < 64 ⌝ }
+    ensures { λ r. ⌜ r ≡ all (below (2 ^ places)) (now (codes .entry)) ⌝ }
 {
-    let mut ok = true;
+    let mut gathered: u64 = 0;
     let mut i = 0;
     while i < codes.len() {
-        ok = ok & (codes[i] < limit);
+        gathered = gathered | codes[i];
         i += 1;
     }
-    ok
+    gathered < (1 << places)
 }
 
 // Every code is a word of the square. At edge 8 every u64 is.
@@ -55,7 +58,7 @@ pub fn codes_fit(codes: &[u64], edge: u8) -> bool
         return true;
     }
     let e = edge as u64;
-    all_below(codes, 1 << (e * e))
+    all_below(codes, e * e)
 }
 
 // Refusal 6 for a table of which all is lent but the border.

@@ -1,60 +1,133 @@
--- Of the first i codes the one at `id` is the closest, and `differing` says how close. Assumes nothing.
-use mathlib.Core.Path.{_≡_, refl, sym, ap, subst}
-use mathlib.Core.Logic.{⊎-elim}
-use Prim.Native.Nat.{ℕ, _+_, _-_, _≤_, _<_}
+-- Of the codes before i, `differing` is the fewest, and none before `block` differs in so few. Assumes nothing.
+use mathlib.Core.Path.{_≡_, refl, sym, ap, ap₂, _∙_, subst}
+use mathlib.Core.List.{List}
+use Prim.Native.Nat.{ℕ, _+_, _-_, _≤_, _<_, min}
+use native.Mathlib.Nat.{not-suc-le-zero, min-eq-left, min-eq-right, le-of-lt, lt-of-lt-of-le}
 use native.Mathlib.Omega.{arith}
 use borrow.Author.Needs.{needs}
-use lib.ListN.{length, getD}
+use lib.ListN.{length, getD, take, drop, length-drop}
+use lib.Seq.{take-all}
 use Rattle.word.specs.Word.{differing}
-use Rattle.search.proofs.Closest.{Closest, none-yet, taken, passed, closest-is}
+use Rattle.search.specs.Search.{fewest, firstAt}
+use Rattle.search.proofs.Closest.{fewest-take, fewest-front, first-le, first-drop}
 use Rattle.search.proofs.nearest.Statement.{statement}
 use Rattle.search.proofs.nearest.Tie as tie
 
+record Kept (w : ℕ) (codes : List ℕ) (block d i : ℕ) : Type 0 where
+  inside : i ≤ length codes
+  before : block ≤ i
+  least : d ≡ fewest w (take i codes)
+  more : (k : ℕ) → k < block → d < differing w (getD codes k 0)
+
 abbrev Inv-loop : tie.InvT-loop
-Inv-loop bits codes id₀ differing₀ i₀ id d i = (i ≤ length codes) × Closest bits codes i id d
+Inv-loop bits codes block₀ differing₀ i₀ block d i = Kept bits codes block d i
 
 abbrev μ-loop : tie.MeasureT-loop
-μ-loop bits codes id₀ differing₀ i₀ id d i = length codes - i
+μ-loop bits codes block₀ differing₀ i₀ block d i = length codes - i
 
 loop-holds : tie.Need-loop-holds Inv-loop μ-loop
-loop-holds c = (omega arith, none-yet (c .before .args .bits) (c .before .args .codes .now))
+unfolding fewest
+loop-holds c = record { inside = omega arith; before = omega arith; least = refl; more = λ k h. absurd (not-suc-le-zero h) }
 
-mul-differing-bits : tie.Need-mul-differing-bits Inv-loop μ-loop
-mul-differing-bits c = omega arith
+block-end-requires : tie.Need-block-end-requires Inv-loop μ-loop
+block-end-requires c κs = omega arith
 
-shared-slice-read-differing-bits : tie.Need-shared-slice-read-differing-bits Inv-loop μ-loop
-shared-slice-read-differing-bits c = omega arith
+mul-fewest-bits : tie.Need-mul-fewest-bits Inv-loop μ-loop
+mul-fewest-bits c = omega arith
 
-differing-bits-requires : tie.Need-differing-bits-requires Inv-loop μ-loop
-differing-bits-requires c κs = tt
+sub-fewest-bits : tie.Need-sub-fewest-bits Inv-loop μ-loop
+sub-fewest-bits c = omega (arith, c .block-end .ensures .0)
 
-add-i : tie.Need-add-i Inv-loop μ-loop
-add-i c = omega arith
+part-fewest-bits-start : tie.Need-part-fewest-bits-start Inv-loop μ-loop
+part-fewest-bits-start c = search needs
+
+part-fewest-bits-end : tie.Need-part-fewest-bits-end Inv-loop μ-loop
+part-fewest-bits-end c = search needs
+
+fewest-bits-requires : tie.Need-fewest-bits-requires Inv-loop μ-loop
+fewest-bits-requires c κs = tt
+
+-- a block more, from i to e, in which x is the fewest
+module _ (w : ℕ) (codes : List ℕ) (block d i e x : ℕ) (k : Kept w codes block d i) (from : i < e) (to : e ≤ length codes) (amount : x ≡ fewest w (take (e - i) (drop i codes))) where
+  both : min d x ≡ fewest w (take e codes)
+  both =
+      ap₂ min (k .least) amount ∙ sym (fewest-take w codes i (e - i))
+      ∙ ap (λ (n : ℕ). fewest w (take n codes)) (let q : i + (e - i) ≡ e = omega arith in q)
+
+  nearer : x < d → Kept w codes i x e
+  nearer h = record {
+    inside = to;
+    before = le-of-lt from;
+    least = sym (min-eq-right (le-of-lt h)) ∙ both;
+    more = λ j l. lt-of-lt-of-le h (subst (λ (n : ℕ). n ≤ differing w (getD codes j 0)) (sym (k .least)) (fewest-front w codes i j l (omega arith)));
+  }
+
+  no-nearer : d ≤ x → Kept w codes block d e
+  no-nearer h = record { inside = to; before = omega (arith, k .before); least = sym (min-eq-left h) ∙ both; more = k .more }
 
 loop-less : tie.Need-loop-less Inv-loop μ-loop
-loop-less c = omega arith
+loop-less c = omega (arith, c .before .before .before .block-end .ensures .0, c .before .before .before .block-end .ensures .1)
 
 loop-again : tie.Need-loop-again Inv-loop μ-loop
 loop-again c =
-    let d = c .before in
-    let l = d .before .before .before in
+    let b = c .before .before .before in
+    let l = b .before .before in
     let a = l .before .before .args in
-    let w = a .bits in
-    let codes = a .codes .now in
-    let o = l .loop in (
-      omega arith,
-      ⊎-elim
-          (λ v. taken w codes (o .i) (o .id) (o .differing) (c .if1 .id) (c .if1 .differing) (d .differing-bits .result) (d .differing-bits .ensures) (o .inv .1) (v .0 .taken) (v .1) (v .2))
-          (λ v. passed w codes (o .i) (o .id) (o .differing) (c .if1 .id) (c .if1 .differing) (d .differing-bits .result) (d .differing-bits .ensures) (o .inv .1) (v .0 .left) (v .1) (v .2))
-          (c .if1 .came),
-    )
+    nearer (a .bits) (a .codes .now) (l .loop .block) (l .loop .differing) (l .loop .i) (b .block-end .result) (c .before .fewest-bits .result) (l .loop .inv)
+    (b .block-end .ensures .0) (b .block-end .ensures .1) (c .before .fewest-bits .ensures) (c .if1 .taken)
+
+loop-less-2 : tie.Need-loop-less-2 Inv-loop μ-loop
+loop-less-2 c = omega (arith, c .before .before .before .block-end .ensures .0, c .before .before .before .block-end .ensures .1)
+
+loop-again-2 : tie.Need-loop-again-2 Inv-loop μ-loop
+loop-again-2 c =
+    let b = c .before .before .before in
+    let l = b .before .before in
+    let a = l .before .before .args in
+    no-nearer (a .bits) (a .codes .now) (l .loop .block) (l .loop .differing) (l .loop .i) (b .block-end .result) (c .before .fewest-bits .result) (l .loop .inv)
+    (b .block-end .ensures .0) (b .block-end .ensures .1) (c .before .fewest-bits .ensures) (c .if1 .left)
+
+mul-first-with : tie.Need-mul-first-with Inv-loop μ-loop
+mul-first-with c = omega (arith, c .before .loop .inv .before, c .before .loop .inv .inside)
+
+sub-first-with : tie.Need-sub-first-with Inv-loop μ-loop
+sub-first-with c = omega (arith, c .before .loop .inv .before, c .before .loop .inv .inside)
+
+part-first-with-start : tie.Need-part-first-with-start Inv-loop μ-loop
+part-first-with-start c = search needs
+
+part-first-with-end : tie.Need-part-first-with-end Inv-loop μ-loop
+part-first-with-end c = search needs
+
+first-with-requires : tie.Need-first-with-requires Inv-loop μ-loop
+first-with-requires c κs = tt
+
+-- all codes are before i
+module _ (w : ℕ) (codes : List ℕ) (block d i first : ℕ) (k : Kept w codes block d i) (end : length codes ≤ i) (e : first ≡ firstAt w d (take (length codes - block) (drop block codes))) where
+  at-last : d ≡ fewest w codes
+  at-last = k .least ∙ ap (fewest w) (take-all i codes end)
+
+  position : block + first ≡ firstAt w d codes
+  position =
+      ap (λ (n : ℕ). block + n) (e ∙ ap (firstAt w d) (take-all (length codes - block) (drop block codes) (omega (arith, length-drop block codes))))
+      ∙ sym (first-drop w d codes block (omega (arith, k .before, k .inside)) (k .more))
+
+add-id : tie.Need-add-id Inv-loop μ-loop
+add-id c =
+    let l = c .before .before .before in
+    let a = l .before .before .args in
+    let o = l .loop in
+    omega
+    (arith, position (a .bits) (a .codes .now) (o .block) (o .differing) (o .i) (c .first-with .result) (o .inv) (omega arith) (c .first-with .ensures), first-le (a .bits) (o .differing) (a .codes .now))
 
 returns : tie.Need-returns Inv-loop μ-loop
 returns c =
-    let l = c .before .loop in
-    let a = c .before .before .before .args in
-    let e : l .i ≡ length (a .codes .now) = omega (arith, l .inv .0) in
-    closest-is (a .bits) (a .codes .now) (l .id) (l .differing) (subst (λ (n : ℕ). Closest (a .bits) (a .codes .now) n (l .id) (l .differing)) e (l .inv .1))
+    let l = c .before .before .before in
+    let a = l .before .before .args in
+    let o = l .loop in
+    let d = at-last (a .bits) (a .codes .now) (o .block) (o .differing) (o .i) (c .first-with .result) (o .inv) (omega arith) (c .first-with .ensures) in
+    let p = position (a .bits) (a .codes .now) (o .block) (o .differing) (o .i) (c .first-with .result) (o .inv) (omega arith) (c .first-with .ensures) in
+    (d, p ∙ ap (λ (n : ℕ). firstAt (a .bits) n (a .codes .now)) d)
 
 pub nearest-spec : {M : Type 1} → statement M
 nearest-spec =
@@ -63,10 +136,20 @@ nearest-spec =
     Inv-loop
     μ-loop
     loop-holds
-    mul-differing-bits
-    shared-slice-read-differing-bits
-    differing-bits-requires
-    add-i
+    block-end-requires
+    mul-fewest-bits
+    sub-fewest-bits
+    part-fewest-bits-start
+    part-fewest-bits-end
+    fewest-bits-requires
     loop-less
     loop-again
+    loop-less-2
+    loop-again-2
+    mul-first-with
+    sub-first-with
+    part-first-with-start
+    part-first-with-end
+    first-with-requires
+    add-id
     returns)

@@ -1,29 +1,46 @@
--- The flag `ok` with the codes from i on is the test of all codes. Assumes nothing.
-use mathlib.Core.Path.{_≡_, refl}
-use mathlib.Core.Bool.{_&&_}
-use Prim.Native.Nat.{_-_, _≤_}
+-- The test of what was gathered, with that of the codes from i on, is the test of all codes. Assumes nothing.
+use mathlib.Core.Path.{_≡_, refl, sym, ap, _∙_}
+use mathlib.Core.Bool.{Bool, true, false, _&&_}
+use Prim.Native.Nat.{ℕ, _-_, _^_, _≤_}
+use native.Mathlib.Nat.{one-mul}
 use native.Mathlib.Omega.{arith}
+use borrow.Author.Tests.{ltb-true, ltb-false, lt-ltb, le-ltb}
+use lib.Bits.{bitOr, or-lt, or-add-and, and-le-l, and-le-r}
+use lib.Dec.{ltb}
 use lib.ListN.{length, drop, getD}
+use lib.Pow.{shl-exact, pow-pos}
 use Rattle.lists.specs.Tab.{all}
 use Rattle.lists.proofs.All.{gather-more, gather-done}
 use Rattle.tables.specs.Table.{below}
 use Rattle.tables.proofs.all_below.Statement.{statement}
 use Rattle.tables.proofs.all_below.Tie as tie
 
+-- two numbers are below a power of two where their gathered bits are
+or-below : (k a b : ℕ) → below (2 ^ k) (bitOr a b) ≡ below (2 ^ k) a && below (2 ^ k) b
+or-below k a b = go (below (2 ^ k) a) (below (2 ^ k) b) refl refl
+  where
+    go : (s t : Bool) → below (2 ^ k) a ≡ s → below (2 ^ k) b ≡ t → below (2 ^ k) (bitOr a b) ≡ s && t
+    go false t p q = le-ltb (bitOr a b) (2 ^ k) (omega (arith, ltb-false a (2 ^ k) p, or-add-and a b, and-le-r a b))
+    go true false p q = le-ltb (bitOr a b) (2 ^ k) (omega (arith, ltb-false b (2 ^ k) q, or-add-and a b, and-le-l a b))
+    go true true p q = lt-ltb (bitOr a b) (2 ^ k) (or-lt k a b (ltb-true a (2 ^ k) p) (ltb-true b (2 ^ k) q))
+
 abbrev Inv-loop : tie.InvT-loop
-Inv-loop codes limit ok₀ i₀ ok i = (i ≤ length codes) × (all (below limit) codes ≡ ok && all (below limit) (drop i codes))
+Inv-loop codes places gathered₀ i₀ gathered i =
+    (i ≤ length codes) × (all (below (2 ^ places)) codes ≡ below (2 ^ places) gathered && all (below (2 ^ places)) (drop i codes))
 
 abbrev μ-loop : tie.MeasureT-loop
-μ-loop codes limit ok₀ i₀ ok i = length codes - i
+μ-loop codes places gathered₀ i₀ gathered i = length codes - i
 
 loop-holds : tie.Need-loop-holds Inv-loop μ-loop
-loop-holds c = (omega arith, refl)
+loop-holds c =
+    let a = c .args in
+    (omega arith, sym (ap (λ (t : Bool). t && all (below (2 ^ a .places)) (a .codes .now)) (lt-ltb 0 (2 ^ a .places) (pow-pos (a .places)))))
 
-mul-ok : tie.Need-mul-ok Inv-loop μ-loop
-mul-ok c = omega arith
+mul-gathered : tie.Need-mul-gathered Inv-loop μ-loop
+mul-gathered c = omega arith
 
-shared-slice-read-ok : tie.Need-shared-slice-read-ok Inv-loop μ-loop
-shared-slice-read-ok c = omega arith
+shared-slice-read-gathered : tie.Need-shared-slice-read-gathered Inv-loop μ-loop
+shared-slice-read-gathered c = omega arith
 
 add-i : tie.Need-add-i Inv-loop μ-loop
 add-i c = omega arith
@@ -35,16 +52,22 @@ loop-again : tie.Need-loop-again Inv-loop μ-loop
 loop-again c =
     let l = c .before .before in
     let a = l .before .args in
-    let limit = a .limit in
-    (omega arith, gather-more (below limit) (a .codes .now) (l .loop .i) 0 (omega arith) (l .loop .ok) (l .loop .ok && below limit (getD (a .codes .now) (l .loop .i) 0)) refl (l .loop .inv .1))
+    let o = l .loop in
+    let code = getD (a .codes .now) (o .i) 0 in
+    (omega arith, gather-more (below (2 ^ a .places)) (a .codes .now) (o .i) 0 (omega arith) (below (2 ^ a .places) (o .gathered)) (below (2 ^ a .places) (bitOr (o .gathered) code)) (or-below (a .places) (o .gathered) code) (o .inv .1))
+
+shl-result : tie.Need-shl-result Inv-loop μ-loop
+shl-result c = omega (arith, c .before .before .pre)
 
 returns : tie.Need-returns Inv-loop μ-loop
 returns c =
     let l = c .before .loop in
-    let a = c .before .before .args in
-    let limit = a .limit in
-    gather-done (below limit) (a .codes .now) (l .i) (c .loop-test .left) (l .ok) (l .inv .1)
+    let s = c .before .before in
+    let k = s .args .places in
+    ap (λ (n : ℕ). ltb (l .gathered) n) (shl-exact 1 k 64 (omega arith) (omega (arith, s .pre)) ∙ one-mul (2 ^ k))
+    ∙ gather-done (below (2 ^ k)) (s .args .codes .now) (l .i) (c .loop-test .left) (below (2 ^ k) (l .gathered)) (l .inv .1)
 
 pub all-below-spec : {M : Type 1} → statement M
 all-below-spec =
-    tie.close (tie.spec Inv-loop μ-loop loop-holds mul-ok shared-slice-read-ok add-i loop-less loop-again returns)
+    tie.close
+    (tie.spec Inv-loop μ-loop loop-holds mul-gathered shared-slice-read-gathered add-i loop-less loop-again shl-result returns)

@@ -1,21 +1,15 @@
--- At edge 8 a u64 is below 2^64; below it, the square's limit is the shifted one. Assumes nothing.
-use mathlib.Core.Path.{_≡_, refl, sym, ap, _∙_}
+-- At edge 8 a u64 is below 2^64; below it, the square has at most 49 places. Assumes nothing.
+use mathlib.Core.Path.{_≡_, sym, ap, _∙_}
 use Prim.Native.Nat.{ℕ, _*_, _^_, _<_, _≤_}
-use native.Mathlib.Nat.{mul-le-mul, one-mul}
+use native.Mathlib.Nat.{mul-le-mul}
 use native.Mathlib.Omega.{arith}
-use borrow.Author.Needs.{needs}
 use borrow.Author.Tests.{lt-ltb}
 use lib.ListN.{getD}
-use lib.Pow.{shl-exact}
-use Rattle.lists.specs.Tab.{all}
 use Rattle.lists.proofs.All.{all-of}
-use Rattle.tables.specs.Table.{below, inSquare}
+use Rattle.tables.specs.Table.{inSquare}
 use Rattle.tables.proofs.Table.{good-edge, Within}
 use Rattle.tables.proofs.codes_fit.Statement.{statement}
 use Rattle.tables.proofs.codes_fit.Tie as tie
-use Rattle.tables.proofs.codes_fit.Reads as reads
-use Rattle.tables.proofs.codes_fit.Lts as lts
-use Rattle.tables.proofs.all_below.Reads as all-below-reads
 
 -- an edge of 1 to 8 that is not 8
 small : (e : ℕ) → Within 1 8 e → (e ≡ 8 → ⊥) → e * e ≤ 49
@@ -30,18 +24,11 @@ returns c =
 mul-all-below : tie.Need-mul-all-below
 mul-all-below c = omega (arith, small (c .before .before .args .edge) (good-edge _ (c .before .before .pre)) (c .if1 .left))
 
-shl-all-below : tie.Need-shl-all-below
-shl-all-below c = omega (arith, small (c .before .before .args .edge) (good-edge _ (c .before .before .pre)) (c .if1 .left))
-
 all-below-requires : tie.Need-all-below-requires
-all-below-requires c κs = search needs
+all-below-requires c κs = omega (arith, small (c .before .before .args .edge) (good-edge _ (c .before .before .pre)) (c .if1 .left))
 
 returns-2 : tie.Need-returns-2
-returns-2 c =
-    let f = c .before in
-    let a = f .before .before .args in
-    c .all-below .ensures
-    ∙ ap (λ (n : ℕ). all (below n) (a .codes .now)) (shl-exact 1 (a .edge * a .edge) 64 (omega arith) (omega (arith, small (a .edge) (good-edge _ (f .before .before .pre)) (f .if1 .left))) ∙ one-mul (2 ^ (a .edge * a .edge)))
+returns-2 c = c .all-below .ensures
 
 pub codes-fit-spec : {M : Type 1} → statement M
-codes-fit-spec = tie.close (tie.spec returns mul-all-below shl-all-below all-below-requires returns-2)
+codes-fit-spec = tie.close (tie.spec returns mul-all-below all-below-requires returns-2)
