@@ -1,18 +1,21 @@
 -- What demand 3 says of the functions that paint and read. `paper`'s Demand3 has the words that are used here. Assumes nothing.
 use mathlib.Core.Path.{_≡_}
-use mathlib.Core.List.{List}
+use mathlib.Core.List.{List, [], _∷_, _++_}
 use Prim.Native.Nat.{ℕ, _<_}
 use Rattle.refusals.specs.Outcome.{Outcome, accepted, refused}
 use Rattle.refusals.specs.declared.Frame.{Frame}
 use Rattle.points.specs.declared.Quad.{Quad}
-use Rattle.points.specs.Turned.{turnedLeft}
+use lib.Ieee.{Float}
+use Rattle.points.specs.Turned.{turnedOnce, turnedLeft}
 use Rattle.tables.specs.declared.Family.{Family}
 use Rattle.painter.specs.declared.Print.{Print}
 use Rattle.reader.specs.Reading.{Tag}
+use Rattle.listing.specs.Listing.{Listing, listingOf, numbersOf, rowAt, cornersAt}
 use Rattle.muosleap.specs.PaintTag.{Painting, paintTag}
 use Rattle.muosleap.specs.Quad.{decodeQuad}
+use Rattle.muosleap.specs.Quads.{decodeQuads}
 use Rattle.paper.specs.Starts.{fromStart}
-use Rattle.paper.specs.Demand3.{Passes, Painted, ownTag}
+use Rattle.paper.specs.Demand3.{Passes, Painted, ownTag, ownTurn, printOrder}
 
 -- "Start s of the painter's quad is then read with the same table and threshold, on the plane as the painter left it."; where the painter
 -- refuses there is no quad to read, and its number stands
@@ -39,3 +42,21 @@ pub record StartsRead (plane : List ℕ) (frame : Frame) (family : Family) (code
   -- "with any table that passes the likeness check and any eight numbers: if one start is refused, all four are, under one number; else all
   -- give one id and the same corners, and start s the turn of start 0 less s, modulo 4"
   pub alike : Passes family codes → (s1 ≡ fromStart 1 s0) × (s2 ≡ fromStart 2 s0) × (s3 ≡ fromStart 3 s0)
+
+-- the four starts of a quad as a list of quads
+abbrev pub startNumbers : Quad → List Float
+startNumbers q = numbersOf q ++ (numbersOf (turnedOnce q) ++ (numbersOf (turnedOnce (turnedOnce q)) ++ numbersOf (turnedOnce (turnedOnce (turnedOnce q)))))
+
+-- the list reading of the four starts of the painter's quad; where the painter refuses, its number stands and both outputs are as they were
+abbrev pub listPrint : Frame → Family → List ℕ → List ℕ → List Float → List ℕ → Outcome Quad → Listing
+listPrint frame family codes rows corners shown (accepted quad) = decodeQuads shown frame family codes (startNumbers quad) rows corners
+listPrint frame family codes rows corners shown (refused n) = listingOf (refused n) rows corners
+
+-- a tag is painted and its four starts read as a list, with this plane left and this result
+pub record StartsListed (plane : List ℕ) (frame : Frame) (family : Family) (codes : List ℕ) (word : ℕ) (print : Print) (rows : List ℕ) (corners : List Float) (left : List ℕ) (result : Listing) : Type 0 where
+  pub shown : left ≡ paintTag plane frame (family .edge) (family .border) word print .plane
+  pub read : result ≡ listPrint frame family codes rows corners left (paintTag plane frame (family .edge) (family .border) word print .answer)
+  -- "and this start's row and corner numbers, in every accepted list reading of this plane that holds it"
+  pub own : (id : ℕ) (quad : Quad) (picture : List ℕ) → Painted family codes id word plane frame print quad picture
+      → (n s : ℕ) → result .answer ≡ accepted n → s < n → s < 4
+      → (rowAt (result .rows) s ≡ 0 ∷ id ∷ ownTurn s ∷ []) × (cornersAt (result .corners) s ≡ numbersOf (printOrder quad))

@@ -1,13 +1,17 @@
 // Demand 3 said of the code: functions that paint a tag and then read it, and that read the four starts of a quad. They are no
 // public entries. specs/Said.antt says what is proved of them.
 use muosleap::painting::Painted;
+use muosleap::quads::Listed;
 use painter::Print;
 use points::Quad;
 use reader::Reading;
 use refusals::Frame;
 use tables::Family;
+ghost use mathlib.Core.Path.{_≡_};
+ghost use Rattle.listing.specs.Listing.{listingOf};
 ghost use Rattle.reader.specs.Answer.{paperReading};
-ghost use Rattle.demand3.specs.Said.{PaintedThenRead, StartsRead};
+ghost use Rattle.muosleap.specs.Quads.{paperListed};
+ghost use Rattle.demand3.specs.Said.{PaintedThenRead, StartsRead, startNumbers, StartsListed};
 
 // The readings of the four starts of a quad, start 0 first.
 pub struct Starts {
@@ -62,4 +66,79 @@ pub fn read_starts(plane: &[u8], frame: Frame, family: Family, codes: &[u64], qu
     let s2 = muosleap::detector::try_decode_quad(plane, frame, family, codes, q2);
     let s3 = muosleap::detector::try_decode_quad(plane, frame, family, codes, q3);
     Starts { s0, s1, s2, s3 }
+}
+
+// The four starts of a quad as a list of quads.
+fn starts_of(quad: Quad) -> [f32; 32]
+    ensures { λ r. ⌜ r ≡ startNumbers quad ⌝ }
+{
+    let a = quad.q0;
+    let b = quad.q1;
+    let c = quad.q2;
+    let d = quad.q3;
+    [
+        a.x,
+        a.y,
+        b.x,
+        b.y,
+        c.x,
+        c.y,
+        d.x,
+        d.y,
+        b.x,
+        b.y,
+        c.x,
+        c.y,
+        d.x,
+        d.y,
+        a.x,
+        a.y,
+        c.x,
+        c.y,
+        d.x,
+        d.y,
+        a.x,
+        a.y,
+        b.x,
+        b.y,
+        d.x,
+        d.y,
+        a.x,
+        a.y,
+        b.x,
+        b.y,
+        c.x,
+        c.y,
+    ]
+}
+
+// Paints the word with the table's edge and border, and reads the list of the four starts of the painter's quad on the plane as
+// the painter left it. Where the painter refuses, the answer is its number.
+pub fn list_starts(
+    plane: &mut [u8],
+    frame: Frame,
+    family: Family,
+    codes: &[u64],
+    word: u64,
+    print: Print,
+    rows: &mut [u64],
+    corners: &mut [f32],
+) -> Listed
+    ensures { λ r. ⌜ StartsListed (now (plane .entry)) frame family (now (codes .entry)) word print (now (rows .entry)) (now (corners .entry)) (now (plane .exit)) (listingOf (paperListed r) (now (rows .exit)) (now (corners .exit))) ⌝ }
+{
+    let painted = muosleap::painting::paint_tag(
+        plane,
+        frame,
+        family.edge,
+        family.border,
+        word,
+        print,
+    );
+    match painted {
+        Painted::Refused(n) => Listed::Refused(n),
+        Painted::Tag(quad) => {
+            let quads = starts_of(quad);
+            muosleap::quads::try_decode_quads(plane, frame, family, codes, &quads, rows, corners)
+        }
+    }
 }
