@@ -37,10 +37,6 @@ pub apart-part : (img weights : List Float) (start step a n k : ℕ) → sums we
 apart-part img weights start step a n k =
     tabulate-ext n _ _ (λ i h. weighted-ext weights _ _ k (λ j b. ap (λ (p : ℕ). getD img p nan) (omega arith)))
 
--- a sample of a row that lies by itself
-pub across-sample : (samples weights : List Float) (n x : ℕ) → 0 < n → along weights n (λ q. getD samples (q * 1 + 0) nan) x ≡ along weights n (λ q. getD samples q nan) x
-across-sample samples weights n x some = along-ext weights n _ _ x some (λ j h. (let e : j * 1 + 0 ≡ j = omega arith in ap (λ (p : ℕ). getD samples p nan) e))
-
 -- samples of a row that have all their taps in the row
 pub across-inner : (samples weights : List Float) (n x m : ℕ) → radius weights ≤ x → x + m + radius weights ≤ n → sums weights (apart samples (x - radius weights) 1) m (length weights) ≡ tabulate m (λ i. along weights n (λ q. getD samples q nan) (x + i))
 across-inner samples weights n x m low high =

@@ -124,17 +124,18 @@ fn repeated_place(n: usize, r: usize, p: usize) -> usize
     p - r
 }
 
-// Sample `p` of a line of `n` samples, blurred along that line. The first of them lies at `first`, the others `step` apart.
-fn blur_sample(img: &[f32], first: usize, step: usize, n: usize, p: usize, weights: &[f32]) -> f32
-    requires { ⌜ (p < n) × (n ≤ length (now img)) × ((n - 1) * step + first < length (now img)) ⌝ }
-    ensures { λ s. ⌜ s ≡ along (now (weights .entry)) n (λ q. getD (now (img .entry)) (q * step + first) nan) p ⌝ }
+// Sample `x` of a row, blurred along the row.
+fn blur_sample(samples: &[f32], x: usize, weights: &[f32]) -> f32
+    requires { ⌜ x < length (now samples) ⌝ }
+    ensures { λ s. ⌜ s ≡ along (now (weights .entry)) (length (now (samples .entry))) (λ q. getD (now (samples .entry)) q nan) x ⌝ }
 {
+    let n = samples.len();
     let r = weights.len() / 2;
     let mut sum = 0.0;
     let mut k = 0;
     while k < weights.len() {
-        let tap = repeated_place(n, r, p + k) * step + first;
-        sum = sum + img[tap] * weights[k];
+        let tap = repeated_place(n, r, x + k);
+        sum = sum + samples[tap] * weights[k];
         k += 1;
     }
     sum
@@ -165,7 +166,7 @@ fn blur_row(row: &mut [f32], samples: &[f32], weights: &[f32])
             sum_blocks(&mut row[x..end], samples, x - r, 1, weights);
             x = end;
         } else {
-            row[x] = blur_sample(samples, 0, 1, n, x, weights);
+            row[x] = blur_sample(samples, x, weights);
             x += 1;
         }
     }
@@ -185,6 +186,23 @@ pub fn blur_across(img: &[f32], width: usize, height: usize, weights: &[f32], te
     }
 }
 
+// Blurs row `y` of a plane down, where an edge may be repeated: one weight at a time over the whole row.
+fn sum_rows(row: &mut [f32], img: &[f32], height: usize, y: usize, weights: &[f32])
+    requires { ⌜ (0 < length (now row)) × (y < height) × (length (now img) ≡ length (now row) * height) × (length (now weights) ≤ 15) × (height ≤ 4096) ⌝ }
+    ensures { λ _. ⌜ now (row .exit) ≡ tabulate (length (now (row .entry))) (λ x. along (now (weights .entry)) height (λ r. getD (now (img .entry)) (r * length (now (row .entry)) + x) nan) y) ⌝ }
+{
+    let width = row.len();
+    clear(row);
+    let r = weights.len() / 2;
+    let mut k = 0;
+    while k < weights.len() {
+        let start = repeated_place(height, r, y + k) * width;
+        let end = start + width;
+        add_weighted(row, &img[start..end], weights[k]);
+        k += 1;
+    }
+}
+
 // Blurs row `y` of a plane down: each sample along its column.
 fn blur_row_down(row: &mut [f32], img: &[f32], height: usize, y: usize, weights: &[f32])
     requires { ⌜ (0 < length (now row)) × (y < height) × (length (now img) ≡ length (now row) * height) × (length (now weights) ≤ 15) × (height ≤ 4096) ⌝ }
@@ -194,12 +212,8 @@ fn blur_row_down(row: &mut [f32], img: &[f32], height: usize, y: usize, weights:
     let r = weights.len() / 2;
     if inside(height, r, y) {
         sum_blocks(row, img, (y - r) * width, width, weights);
-        return;
-    }
-    let mut x = 0;
-    while x < width {
-        row[x] = blur_sample(img, x, width, height, y, weights);
-        x += 1;
+    } else {
+        sum_rows(row, img, height, y, weights);
     }
 }
 

@@ -10,7 +10,7 @@ use lib.Ieee.{Float, nan}
 use Rattle.lists.specs.Tab.{tabulate}
 use Rattle.planes.specs.Blur.{along, radius}
 use Rattle.planes.specs.Steps.{apart, sums}
-use Rattle.planes.proofs.Lines.{across-sample, across-inner}
+use Rattle.planes.proofs.Lines.{across-inner}
 use Rattle.planes.proofs.Part.{part-length}
 use Rattle.planes.proofs.Rows.{Filled, filled-none, filled-one, filled-part, filled-all}
 use Rattle.planes.proofs.blur.blur_row.Statement.{statement}
@@ -91,9 +91,7 @@ loop-again c =
     (l .inv)
 
 blur-sample-requires : tie.Need-blur-sample-requires Inv-loop μ-loop
-blur-sample-requires c κs =
-    let b = c .before .before .loop-test .taken in
-    (b, omega arith, omega (arith, b))
+blur-sample-requires c κs = c .before .before .loop-test .taken
 
 mul-row : tie.Need-mul-row Inv-loop μ-loop
 mul-row c = search needs
@@ -117,7 +115,7 @@ loop-again-2 c =
     let samples = now (s .args .samples) in
     let weights = now (s .args .weights) in
     let n = length samples in
-    filled-one (at samples weights n) n (l .x) (l .row) (c .blur-sample .result) (t .loop-test .taken) (c .blur-sample .ensures ∙ across-sample samples weights n (l .x) (s .pre .1)) (l .inv)
+    filled-one (at samples weights n) n (l .x) (l .row) (c .blur-sample .result) (t .loop-test .taken) (c .blur-sample .ensures) (l .inv)
 
 same-length : tie.Need-same-length Inv-loop μ-loop
 same-length c =
