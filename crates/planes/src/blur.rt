@@ -1,6 +1,7 @@
-// The blur sums the samples of a row side by side, in blocks of 16: the 16 sums of a block stay in registers while all weights
-// are added, and are worked on in vector instructions. Near an edge, which is repeated, it sums one sample at a time. Each sum
-// is added up in the order of the weights.
+// The blur. Each sample becomes a sum: its taps, which are the samples around it in its row or its column, each times its
+// weight, added up in the order of the weights. The sums of samples side by side are made in blocks of 16, since 16 sums stay in
+// registers while all weights are added, and are worked on in vector instructions. Near an edge, where taps are repeated, sums
+// are made one at a time across, and a whole row at a time down.
 ghost use mathlib.Core.Path.{_≡_};
 ghost use mathlib.Core.Bool.{true};
 ghost use Prim.Native.Nat.{ℕ, _+_, _-_, _*_, _/_, _<_, _≤_, min};
@@ -24,6 +25,7 @@ pub fn bad_weights(weights: &[f32]) -> bool
     !samples::all_in_unit(weights)
 }
 
+// Makes every sample of a row 0.0.
 pub fn clear(row: &mut [f32])
     ensures { λ _. ⌜ now (row .exit) ≡ tabulate (length (now (row .entry))) (λ x. zeroF) ⌝ }
 {
@@ -46,8 +48,7 @@ fn add_weighted(sums: &mut [f32], samples: &[f32], weight: f32)
     }
 }
 
-// The sums of samples side by side: the taps of the first lie `step` apart from `start` on, those of the others as far
-// behind them as they themselves lie behind the first.
+// Sums side by side, one weight at a time: sum x has its taps at `start + x`, `start + step + x`, `start + 2 * step + x`, ..
 fn sum_taps(row: &mut [f32], img: &[f32], start: usize, step: usize, weights: &[f32])
     requires { ⌜ (length (now weights) - 1) * step + start + length (now row) ≤ length (now img) ⌝ }
     ensures { λ _. ⌜ now (row .exit) ≡ sums (now (weights .entry)) (apart (now (img .entry)) start step) (length (now (row .entry))) (length (now (weights .entry))) ⌝ }
@@ -63,6 +64,7 @@ fn sum_taps(row: &mut [f32], img: &[f32], start: usize, step: usize, weights: &[
     }
 }
 
+// Makes `to` the same as `from`.
 fn copy(to: &mut [f32], from: &[f32])
     requires { ⌜ length (now from) ≡ length (now to) ⌝ }
     ensures { λ _. ⌜ now (to .exit) ≡ now (from .entry) ⌝ }
@@ -74,7 +76,8 @@ fn copy(to: &mut [f32], from: &[f32])
     }
 }
 
-// The sums of a block of 16 samples. They are gathered in an array of their own, which the compiler keeps in registers.
+// The same for a block of 16 sums. They are added up in an array of their own, which the compiler keeps in registers: sums in
+// `block` would go to memory and back with each weight.
 fn sum_block(block: &mut [f32], img: &[f32], start: usize, step: usize, weights: &[f32])
     requires { ⌜ (length (now block) ≡ 16) × ((length (now weights) - 1) * step + start + 16 ≤ length (now img)) ⌝ }
     ensures { λ _. ⌜ now (block .exit) ≡ sums (now (weights .entry)) (apart (now (img .entry)) start step) 16 (length (now (weights .entry))) ⌝ }
@@ -84,13 +87,15 @@ fn sum_block(block: &mut [f32], img: &[f32], start: usize, step: usize, weights:
     copy(block, &lanes);
 }
 
+// The lesser of two numbers.
 fn least(a: usize, b: usize) -> usize
     ensures { λ r. ⌜ r ≡ min a b ⌝ }
 {
     if a < b { a } else { b }
 }
 
-// The sums of samples side by side, in blocks. The last block ends where they end, and may lie over the one before it.
+// The same for any number of sums, in blocks. The last block ends where the row ends. It may lie over a part of the block before
+// it, whose sums it makes again.
 fn sum_blocks(row: &mut [f32], img: &[f32], start: usize, step: usize, weights: &[f32])
     requires { ⌜ (length (now weights) - 1) * step + start + length (now row) ≤ length (now img) ⌝ }
     ensures { λ _. ⌜ now (row .exit) ≡ sums (now (weights .entry)) (apart (now (img .entry)) start step) (length (now (row .entry))) (length (now (weights .entry))) ⌝ }
@@ -124,7 +129,7 @@ fn repeated_place(n: usize, r: usize, p: usize) -> usize
     p - r
 }
 
-// Sample `x` of a row, blurred along the row.
+// Sample `x` of a row, blurred along the row. Beyond an end of the row the sample at that end is the tap.
 fn blur_sample(samples: &[f32], x: usize, weights: &[f32]) -> f32
     requires { ⌜ x < length (now samples) ⌝ }
     ensures { λ s. ⌜ s ≡ along (now (weights .entry)) (length (now (samples .entry))) (λ q. getD (now (samples .entry)) q nan) x ⌝ }
@@ -141,7 +146,7 @@ fn blur_sample(samples: &[f32], x: usize, weights: &[f32]) -> f32
     sum
 }
 
-// Whether sample `p` of a line of `n` samples has `r` samples on each side.
+// Whether sample `p` of a line of `n` has `r` samples on each side, so that all its taps lie in the line.
 fn inside(n: usize, r: usize, p: usize) -> bool
     requires { ⌜ p < n ⌝ }
     ensures { λ b. ⌜ (b ≡ true → (r ≤ p) × (r < n - p)) ⌝ }
@@ -152,7 +157,7 @@ fn inside(n: usize, r: usize, p: usize) -> bool
     r < n - p
 }
 
-// Blurs a row across.
+// Blurs a row across: the samples near its ends one at a time, those between in blocks.
 fn blur_row(row: &mut [f32], samples: &[f32], weights: &[f32])
     requires { ⌜ (length (now samples) ≡ length (now row)) × (0 < length (now samples)) ⌝ }
     ensures { λ _. ⌜ now (row .exit) ≡ tabulate (length (now (row .entry))) (along (now (weights .entry)) (length (now (row .entry))) (λ x. getD (now (samples .entry)) x nan)) ⌝ }
@@ -186,7 +191,7 @@ pub fn blur_across(img: &[f32], width: usize, height: usize, weights: &[f32], te
     }
 }
 
-// Blurs row `y` of a plane down, where an edge may be repeated: one weight at a time over the whole row.
+// Blurs row `y` of a plane down, one weight at a time over the whole row. Beyond an edge the row at that edge has the taps.
 fn sum_rows(row: &mut [f32], img: &[f32], height: usize, y: usize, weights: &[f32])
     requires { ⌜ (0 < length (now row)) × (y < height) × (length (now img) ≡ length (now row) * height) × (length (now weights) ≤ 15) × (height ≤ 4096) ⌝ }
     ensures { λ _. ⌜ now (row .exit) ≡ tabulate (length (now (row .entry))) (λ x. along (now (weights .entry)) height (λ r. getD (now (img .entry)) (r * length (now (row .entry)) + x) nan) y) ⌝ }
@@ -203,7 +208,7 @@ fn sum_rows(row: &mut [f32], img: &[f32], height: usize, y: usize, weights: &[f3
     }
 }
 
-// Blurs row `y` of a plane down: each sample along its column.
+// Blurs row `y` of a plane down, each sample along its column: in blocks, unless the row is near an edge.
 fn blur_row_down(row: &mut [f32], img: &[f32], height: usize, y: usize, weights: &[f32])
     requires { ⌜ (0 < length (now row)) × (y < height) × (length (now img) ≡ length (now row) * height) × (length (now weights) ≤ 15) × (height ≤ 4096) ⌝ }
     ensures { λ _. ⌜ now (row .exit) ≡ tabulate (length (now (row .entry))) (λ x. along (now (weights .entry)) height (λ r. getD (now (img .entry)) (r * length (now (row .entry)) + x) nan) y) ⌝ }
