@@ -1,7 +1,5 @@
 pub mod Part
 pub mod Rows
-pub mod Taps
-pub mod Shift
 pub mod Sums
 pub mod Lines
 pub mod Border

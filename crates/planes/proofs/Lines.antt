@@ -1,23 +1,21 @@
 -- A row of a blurred plane, by the samples of that row, and by the rows of sums. Assumes nothing.
 use mathlib.Core.Path.{_≡_, refl, sym, ap, ap₂, _∙_}
 use mathlib.Core.List.{List}
-use Prim.Native.Nat.{ℕ, zero, suc, _+_, _*_, _<_}
+use Prim.Native.Nat.{ℕ, _+_, _-_, _*_, _<_, _≤_}
+use native.Mathlib.Nat.{add-mul}
 use native.Mathlib.Omega.{arith}
 use lib.ListN.{length, getD, take, drop}
 use lib.Ieee.{Float, nan}
 use Rattle.lists.specs.Tab.{tabulate}
 use Rattle.lists.proofs.Grid.{row-of, column-of}
 use Rattle.planes.specs.Blur.{weighted, radius, repeated, along, acrossAt, downAt}
+use Rattle.planes.specs.Steps.{apart, sums}
 use Rattle.planes.proofs.Rows.{tabulate-ext, row-read}
-
-weighted-ext : (weights : List Float) (f g : ℕ → Float) (k : ℕ) → ((j : ℕ) → f j ≡ g j) → weighted weights f k ≡ weighted weights g k
-unfolding weighted
-weighted-ext weights f g zero e = refl
-weighted-ext weights f g (suc k) e = rw (weighted-ext weights f g k e, e k)
+use Rattle.planes.proofs.Sums.{weighted-ext}
 
 -- two lines that agree below n
 along-ext : (weights : List Float) (n : ℕ) (f g : ℕ → Float) (p : ℕ) → 0 < n → ((j : ℕ) → j < n → f j ≡ g j) → along weights n f p ≡ along weights n g p
-along-ext weights n f g p some e = weighted-ext weights _ _ (length weights) (λ k. e (repeated n (radius weights) (p + k)) (omega arith))
+along-ext weights n f g p some e = weighted-ext weights _ _ (length weights) (λ k h. e (repeated n (radius weights) (p + k)) (omega arith))
 
 module _ (img weights : List Float) (w y : ℕ) (some : 0 < w) where
   -- a row that is blurred by itself
@@ -33,3 +31,18 @@ module _ (img weights : List Float) (w y : ℕ) (some : 0 < w) where
   pub down-row : (h : ℕ) → tabulate w (λ x. along weights h (λ r. getD img (r * w + x) nan) y) ≡ tabulate w (λ x. downAt img w h weights (y * w + x))
   down-row h =
       tabulate-ext w _ _ (λ x b. sym (ap₂ (λ (r c : ℕ). along weights h (λ j. getD img (j * w + c) nan) r) (row-of w y x b) (column-of w y x b)))
+
+-- sums side by side, from the a-th on
+pub apart-part : (img weights : List Float) (start step a n k : ℕ) → sums weights (apart img (start + a) step) n k ≡ tabulate n (λ i. weighted weights (apart img start step (a + i)) k)
+apart-part img weights start step a n k =
+    tabulate-ext n _ _ (λ i h. weighted-ext weights _ _ k (λ j b. ap (λ (p : ℕ). getD img p nan) (omega arith)))
+
+-- samples of a row that have all their taps in the row
+pub across-inner : (samples weights : List Float) (n x m : ℕ) → radius weights ≤ x → x + m + radius weights ≤ n → sums weights (apart samples (x - radius weights) 1) m (length weights) ≡ tabulate m (λ i. along weights n (λ q. getD samples q nan) (x + i))
+across-inner samples weights n x m low high =
+    tabulate-ext m _ _ (λ i h. weighted-ext weights _ _ (length weights) (λ j b. ap (λ (p : ℕ). getD samples p nan) (omega arith)))
+
+-- a row that has all its taps in the plane
+pub down-inner : (img weights : List Float) (w h y : ℕ) → radius weights ≤ y → y + radius weights < h → sums weights (apart img ((y - radius weights) * w) w) w (length weights) ≡ tabulate w (λ x. along weights h (λ q. getD img (q * w + x) nan) y)
+down-inner img weights w h y low high =
+    tabulate-ext w _ _ (λ x b. weighted-ext weights _ _ (length weights) (λ j i. ap (λ (p : ℕ). getD img (p + x) nan) (sym (add-mul j (y - radius weights) w) ∙ ap (λ (q : ℕ). q * w) (omega arith))))

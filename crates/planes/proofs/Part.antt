@@ -7,6 +7,13 @@ use lib.ListN.{length, getD, take, drop, length-append, length-drop, List·getD-
 use lib.Seq.{length-take-le, getD-take, getD-drop, getD-append-add}
 
 module _ {ℓ} {A : Type ℓ} where
+  -- the part of a list from a to e
+  pub part-length : (l : List A) (a e k : ℕ) → a ≤ e → e ≤ length l → e ≡ a + k → length (take (e - a) (drop a l)) ≡ k
+  part-length l a e k ord fits is = length-take-le (e - a) (drop a l) (omega (arith, length-drop a l)) ∙ omega arith
+
+  pub part-read : (l : List A) (a k x : ℕ) (d : A) → x < k → getD (take k (drop a l)) x d ≡ getD l (a + x) d
+  part-read l a k x d h = getD-take k (drop a l) x d h ∙ getD-drop a l x d
+
   abbrev pub back : List A → ℕ → ℕ → List A → List A
   back xs a k ys = take a xs ++ (ys ++ drop k (drop a xs))
 

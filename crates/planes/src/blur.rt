@@ -1,13 +1,16 @@
-// The blur takes one weight at a time over a whole row of sums, which stays in the nearest cache and is worked on in
-// vector instructions. Each sum is still added up in the order of the weights.
+// The blur. Each sample becomes a sum: its taps, which are the samples around it in its row or its column, each times its
+// weight, added up in the order of the weights. The sums of samples side by side are made in blocks of 16, since 16 sums stay in
+// registers while all weights are added, and are worked on in vector instructions. Near an edge, where taps are repeated, sums
+// are made one at a time across, and a whole row at a time down.
 ghost use mathlib.Core.Path.{_≡_};
+ghost use mathlib.Core.Bool.{true};
 ghost use Prim.Native.Nat.{ℕ, _+_, _-_, _*_, _/_, _<_, _≤_, min};
 ghost use lib.ListN.{length, getD};
 ghost use lib.Ieee.{nan};
 ghost use Rattle.lists.specs.Tab.{tabulate};
 ghost use Rattle.samples.specs.Samples.{zeroF};
 ghost use Rattle.planes.specs.Blur.{badWeights, along, repeated, across, down};
-ghost use Rattle.planes.specs.Steps.{added, Shifted};
+ghost use Rattle.planes.specs.Steps.{added, apart, sums};
 
 // Refusal 2.
 pub fn bad_weights(weights: &[f32]) -> bool
@@ -22,6 +25,7 @@ pub fn bad_weights(weights: &[f32]) -> bool
     !samples::all_in_unit(weights)
 }
 
+// Makes every sample of a row 0.0.
 pub fn clear(row: &mut [f32])
     ensures { λ _. ⌜ now (row .exit) ≡ tabulate (length (now (row .entry))) (λ x. zeroF) ⌝ }
 {
@@ -44,72 +48,70 @@ fn add_weighted(sums: &mut [f32], samples: &[f32], weight: f32)
     }
 }
 
-// Adds to each sum one sample times `weight`.
-fn add_repeated(sums: &mut [f32], sample: f32, weight: f32)
-    ensures { λ _. ⌜ now (sums .exit) ≡ added (now (sums .entry)) (λ x. sample) weight ⌝ }
+// Sums side by side, one weight at a time: sum x has its taps at `start + x`, `start + step + x`, `start + 2 * step + x`, ..
+fn sum_taps(row: &mut [f32], img: &[f32], start: usize, step: usize, weights: &[f32])
+    requires { ⌜ (length (now weights) - 1) * step + start + length (now row) ≤ length (now img) ⌝ }
+    ensures { λ _. ⌜ now (row .exit) ≡ sums (now (weights .entry)) (apart (now (img .entry)) start step) (length (now (row .entry))) (length (now (weights .entry))) ⌝ }
 {
-    let mut i = 0;
-    while i < sums.len() {
-        sums[i] = sums[i] + sample * weight;
-        i += 1;
-    }
-}
-
-// How far `a` lies beyond `b`, at most `n`.
-fn beyond(a: usize, b: usize, n: usize) -> usize
-    ensures { λ r. ⌜ r ≡ min (a - b) n ⌝ }
-{
-    if a <= b {
-        return 0;
-    }
-    if n < a - b {
-        return n;
-    }
-    a - b
-}
-
-// Adds to each sum of a row the sample that lies `after` places behind its own, or `before` places before it, times
-// `weight`. Beyond an end of the row the sample at that end is taken.
-fn add_shifted(sums: &mut [f32], samples: &[f32], before: usize, after: usize, weight: f32)
-    requires { ⌜ Shifted (length (now sums)) (length (now samples)) before after ⌝ }
-    ensures { λ _. ⌜ now (sums .exit) ≡ added (now (sums .entry)) (λ x. getD (now (samples .entry)) (repeated (length (now (samples .entry))) before (x + after)) nan) weight ⌝ }
-{
-    let n = samples.len();
-    let end = n - after;
-    let samples_end = n - before;
-    add_repeated(&mut sums[0..before], samples[0], weight);
-    add_weighted(&mut sums[before..end], &samples[after..samples_end], weight);
-    add_repeated(&mut sums[end..n], samples[n - 1], weight);
-}
-
-// Blurs a row.
-fn blur_row(row: &mut [f32], samples: &[f32], weights: &[f32])
-    requires { ⌜ (length (now samples) ≡ length (now row)) × (0 < length (now samples)) ⌝ }
-    ensures { λ _. ⌜ now (row .exit) ≡ tabulate (length (now (row .entry))) (along (now (weights .entry)) (length (now (row .entry))) (λ x. getD (now (samples .entry)) x nan)) ⌝ }
-{
-    let n = samples.len();
+    let n = row.len();
     clear(row);
-    let r = weights.len() / 2;
     let mut k = 0;
     while k < weights.len() {
-        let before = beyond(r, k, n);
-        let after = beyond(k, r, n);
-        add_shifted(row, samples, before, after, weights[k]);
+        let from = k * step + start;
+        let end = from + n;
+        add_weighted(row, &img[from..end], weights[k]);
         k += 1;
     }
 }
 
-// "Across into a lent plane."
-pub fn blur_across(img: &[f32], width: usize, height: usize, weights: &[f32], temp: &mut [f32])
-    requires { ⌜ (0 < width) × (length (now img) ≡ width * height) × (length (now temp) ≡ width * height) ⌝ }
-    ensures { λ _. ⌜ now (temp .exit) ≡ across (now (img .entry)) width height (now (weights .entry)) ⌝ }
+// Makes `to` the same as `from`.
+fn copy(to: &mut [f32], from: &[f32])
+    requires { ⌜ length (now from) ≡ length (now to) ⌝ }
+    ensures { λ _. ⌜ now (to .exit) ≡ now (from .entry) ⌝ }
 {
-    let mut y = 0;
-    while y < height {
-        let start = y * width;
-        let end = start + width;
-        blur_row(&mut temp[start..end], &img[start..end], weights);
-        y += 1;
+    let mut i = 0;
+    while i < to.len() {
+        to[i] = from[i];
+        i += 1;
+    }
+}
+
+// The same for a block of 16 sums. They are added up in an array of their own, which the compiler keeps in registers: sums in
+// `block` would go to memory and back with each weight.
+fn sum_block(block: &mut [f32], img: &[f32], start: usize, step: usize, weights: &[f32])
+    requires { ⌜ (length (now block) ≡ 16) × ((length (now weights) - 1) * step + start + 16 ≤ length (now img)) ⌝ }
+    ensures { λ _. ⌜ now (block .exit) ≡ sums (now (weights .entry)) (apart (now (img .entry)) start step) 16 (length (now (weights .entry))) ⌝ }
+{
+    let mut lanes = [0.0; 16];
+    sum_taps(&mut lanes, img, start, step, weights);
+    copy(block, &lanes);
+}
+
+// The lesser of two numbers.
+fn least(a: usize, b: usize) -> usize
+    ensures { λ r. ⌜ r ≡ min a b ⌝ }
+{
+    if a < b { a } else { b }
+}
+
+// The same for any number of sums, in blocks. The last block ends where the row ends. It may lie over a part of the block before
+// it, whose sums it makes again.
+fn sum_blocks(row: &mut [f32], img: &[f32], start: usize, step: usize, weights: &[f32])
+    requires { ⌜ (length (now weights) - 1) * step + start + length (now row) ≤ length (now img) ⌝ }
+    ensures { λ _. ⌜ now (row .exit) ≡ sums (now (weights .entry)) (apart (now (img .entry)) start step) (length (now (row .entry))) (length (now (weights .entry))) ⌝ }
+{
+    let n = row.len();
+    if n < 16 {
+        sum_taps(row, img, start, step, weights);
+        return;
+    }
+    let last = n - 16;
+    let mut x = 0;
+    while x < n {
+        let from = least(x, last);
+        let end = from + 16;
+        sum_block(&mut row[from..end], img, start + from, step, weights);
+        x = end;
     }
 }
 
@@ -127,7 +129,69 @@ fn repeated_place(n: usize, r: usize, p: usize) -> usize
     p - r
 }
 
-// Blurs one row of a plane down: each sample of row `y` along its column.
+// Sample `x` of a row, blurred along the row. Beyond an end of the row the sample at that end is the tap.
+fn blur_sample(samples: &[f32], x: usize, weights: &[f32]) -> f32
+    requires { ⌜ x < length (now samples) ⌝ }
+    ensures { λ s. ⌜ s ≡ along (now (weights .entry)) (length (now (samples .entry))) (λ q. getD (now (samples .entry)) q nan) x ⌝ }
+{
+    let n = samples.len();
+    let r = weights.len() / 2;
+    let mut sum = 0.0;
+    let mut k = 0;
+    while k < weights.len() {
+        let tap = repeated_place(n, r, x + k);
+        sum = sum + samples[tap] * weights[k];
+        k += 1;
+    }
+    sum
+}
+
+// Whether sample `p` of a line of `n` has `r` samples on each side, so that all its taps lie in the line.
+fn inside(n: usize, r: usize, p: usize) -> bool
+    requires { ⌜ p < n ⌝ }
+    ensures { λ b. ⌜ (b ≡ true → (r ≤ p) × (r < n - p)) ⌝ }
+{
+    if p < r {
+        return false;
+    }
+    r < n - p
+}
+
+// Blurs a row across: the samples near its ends one at a time, those between in blocks.
+fn blur_row(row: &mut [f32], samples: &[f32], weights: &[f32])
+    requires { ⌜ (length (now samples) ≡ length (now row)) × (0 < length (now samples)) ⌝ }
+    ensures { λ _. ⌜ now (row .exit) ≡ tabulate (length (now (row .entry))) (along (now (weights .entry)) (length (now (row .entry))) (λ x. getD (now (samples .entry)) x nan)) ⌝ }
+{
+    let n = samples.len();
+    let r = weights.len() / 2;
+    let mut x = 0;
+    while x < n {
+        if inside(n, r, x) {
+            let end = n - r;
+            sum_blocks(&mut row[x..end], samples, x - r, 1, weights);
+            x = end;
+        } else {
+            row[x] = blur_sample(samples, x, weights);
+            x += 1;
+        }
+    }
+}
+
+// "Across into a lent plane."
+pub fn blur_across(img: &[f32], width: usize, height: usize, weights: &[f32], temp: &mut [f32])
+    requires { ⌜ (0 < width) × (length (now img) ≡ width * height) × (length (now temp) ≡ width * height) ⌝ }
+    ensures { λ _. ⌜ now (temp .exit) ≡ across (now (img .entry)) width height (now (weights .entry)) ⌝ }
+{
+    let mut y = 0;
+    while y < height {
+        let start = y * width;
+        let end = start + width;
+        blur_row(&mut temp[start..end], &img[start..end], weights);
+        y += 1;
+    }
+}
+
+// Blurs row `y` of a plane down, one weight at a time over the whole row. Beyond an edge the row at that edge has the taps.
 fn sum_rows(row: &mut [f32], img: &[f32], height: usize, y: usize, weights: &[f32])
     requires { ⌜ (0 < length (now row)) × (y < height) × (length (now img) ≡ length (now row) * height) × (length (now weights) ≤ 15) × (height ≤ 4096) ⌝ }
     ensures { λ _. ⌜ now (row .exit) ≡ tabulate (length (now (row .entry))) (λ x. along (now (weights .entry)) height (λ r. getD (now (img .entry)) (r * length (now (row .entry)) + x) nan) y) ⌝ }
@@ -144,6 +208,20 @@ fn sum_rows(row: &mut [f32], img: &[f32], height: usize, y: usize, weights: &[f3
     }
 }
 
+// Blurs row `y` of a plane down, each sample along its column: in blocks, unless the row is near an edge.
+fn blur_row_down(row: &mut [f32], img: &[f32], height: usize, y: usize, weights: &[f32])
+    requires { ⌜ (0 < length (now row)) × (y < height) × (length (now img) ≡ length (now row) * height) × (length (now weights) ≤ 15) × (height ≤ 4096) ⌝ }
+    ensures { λ _. ⌜ now (row .exit) ≡ tabulate (length (now (row .entry))) (λ x. along (now (weights .entry)) height (λ r. getD (now (img .entry)) (r * length (now (row .entry)) + x) nan) y) ⌝ }
+{
+    let width = row.len();
+    let r = weights.len() / 2;
+    if inside(height, r, y) {
+        sum_blocks(row, img, (y - r) * width, width, weights);
+    } else {
+        sum_rows(row, img, height, y, weights);
+    }
+}
+
 // "Then down."
 pub fn blur_down(img: &[f32], width: usize, height: usize, weights: &[f32], out: &mut [f32])
     requires { ⌜ (0 < width) × (length (now img) ≡ width * height) × (length (now out) ≡ width * height) × (length (now weights) ≤ 15) × (height ≤ 4096) ⌝ }
@@ -153,7 +231,7 @@ pub fn blur_down(img: &[f32], width: usize, height: usize, weights: &[f32], out:
     while y < height {
         let start = y * width;
         let end = start + width;
-        sum_rows(&mut out[start..end], img, height, y, weights);
+        blur_row_down(&mut out[start..end], img, height, y, weights);
         y += 1;
     }
 }

@@ -37,20 +37,20 @@ mul-start c = omega (arith, fits c, c .before .loop .inv .whole, St c .pre .1, S
 add-end : tie.Need-add-end Inv-loop μ-loop
 add-end c = omega (arith, fits c, c .before .loop .inv .whole, St c .pre .1, St c .good .0 .0)
 
-mul-sum-rows : tie.Need-mul-sum-rows Inv-loop μ-loop
-mul-sum-rows c = omega (arith, fits c, c .before .loop .inv .whole, St c .pre .1, St c .good .0 .1)
+mul-blur-row-down : tie.Need-mul-blur-row-down Inv-loop μ-loop
+mul-blur-row-down c = omega (arith, fits c, c .before .loop .inv .whole, St c .pre .1, St c .good .0 .1)
 
-sub-sum-rows : tie.Need-sub-sum-rows Inv-loop μ-loop
-sub-sum-rows c = search needs
+sub-blur-row-down : tie.Need-sub-blur-row-down Inv-loop μ-loop
+sub-blur-row-down c = search needs
 
-part-sum-rows-start : tie.Need-part-sum-rows-start Inv-loop μ-loop
-part-sum-rows-start c = search needs
+part-blur-row-down-start : tie.Need-part-blur-row-down-start Inv-loop μ-loop
+part-blur-row-down-start c = search needs
 
-part-sum-rows-end : tie.Need-part-sum-rows-end Inv-loop μ-loop
-part-sum-rows-end c = omega (arith, fits c)
+part-blur-row-down-end : tie.Need-part-blur-row-down-end Inv-loop μ-loop
+part-blur-row-down-end c = omega (arith, fits c)
 
-sum-rows-requires : tie.Need-sum-rows-requires Inv-loop μ-loop
-sum-rows-requires c κs =
+blur-row-down-requires : tie.Need-blur-row-down-requires Inv-loop μ-loop
+blur-row-down-requires c κs =
     let t = c .before in
     let s = St t in
     let w = s .args .width in
@@ -71,8 +71,8 @@ loop-again c =
     let w = a .width in
     let l = t .before .loop in
     let b = row-length (l .out) w (l .y) _ (row-span w (l .y)) (fits t) in
-    rows-more (downAt (now (a .img)) w (a .height) (now (a .weights))) w (a .height) (l .y) _ (l .out) (r .sum-rows .last .0) (t .loop-test .taken) (row-span w (l .y))
-    (r .sum-rows .ensures
+    rows-more (downAt (now (a .img)) w (a .height) (now (a .weights))) w (a .height) (l .y) _ (l .out) (r .blur-row-down .last .0) (t .loop-test .taken) (row-span w (l .y))
+    (r .blur-row-down .ensures
     ∙ ap (λ (n : ℕ). tabulate n (λ x. along (now (a .weights)) (a .height) (λ i. getD (now (a .img)) (i * n + x) nan) (l .y))) b
     ∙ down-row (now (a .img)) (now (a .weights)) w (l .y) (St t .pre .0) (a .height))
     (l .inv)
@@ -95,11 +95,11 @@ blur-down-spec =
     loop-holds
     mul-start
     add-end
-    mul-sum-rows
-    sub-sum-rows
-    part-sum-rows-start
-    part-sum-rows-end
-    sum-rows-requires
+    mul-blur-row-down
+    sub-blur-row-down
+    part-blur-row-down-start
+    part-blur-row-down-end
+    blur-row-down-requires
     add-y
     loop-less
     loop-again

@@ -1,105 +1,135 @@
--- The loop keeps: each sum is that of the first k weights.
+-- The loop keeps: the first x samples are blurred.
 use borrow.Author.Needs.{needs}
 use denote.Ref.{now}
 use mathlib.Core.Path.{_≡_, sym, ap, _∙_}
 use mathlib.Core.List.{List}
-use Prim.Native.Nat.{ℕ, _+_, _-_, _/_, _≤_}
+use Prim.Native.Nat.{ℕ, _+_, _-_, _/_, _≤_, _<_}
 use native.Mathlib.Omega.{arith}
-use lib.ListN.{length, getD}
+use lib.ListN.{length, getD, take, drop}
 use lib.Ieee.{Float, nan}
 use Rattle.lists.specs.Tab.{tabulate}
-use Rattle.lists.proofs.Tab.{length-tabulate}
-use Rattle.samples.specs.Samples.{zeroF}
-use Rattle.planes.specs.Blur.{repeated, along}
-use Rattle.planes.proofs.Taps.{tap-shift, tap-fits}
-use Rattle.planes.proofs.Sums.{sums, sums-none, sums-more}
+use Rattle.planes.specs.Blur.{along, radius}
+use Rattle.planes.specs.Steps.{apart, sums}
+use Rattle.planes.proofs.Lines.{across-inner}
+use Rattle.planes.proofs.Part.{part-length}
+use Rattle.planes.proofs.Rows.{Filled, filled-none, filled-one, filled-part, filled-all}
 use Rattle.planes.proofs.blur.blur_row.Statement.{statement}
 use Rattle.planes.proofs.blur.blur_row.Tie as tie
 
--- tap k of sample x of a row of n
-abbrev tap : List Float → ℕ → ℕ → ℕ → ℕ → Float
-tap samples n r x k = getD samples (repeated n r (x + k)) nan
+-- sample x of the row, blurred
+abbrev at : List Float → List Float → ℕ → ℕ → Float
+at samples weights n = along weights n (λ q. getD samples q nan)
 
 abbrev Inv-loop : tie.InvT-loop
-Inv-loop row₀ samples weights n r k₀ row k = (k ≤ length weights) × (row ≡ sums weights (tap samples n r) n k)
+Inv-loop row₀ samples weights n r x₀ row x = Filled (at samples weights n) n x row
 
 abbrev μ-loop : tie.MeasureT-loop
-μ-loop row₀ samples weights n r k₀ row k = length weights - k
-
-clear-requires : tie.Need-clear-requires Inv-loop μ-loop
-clear-requires c κs = search needs
+μ-loop row₀ samples weights n r x₀ row x = n - x
 
 loop-holds : tie.Need-loop-holds Inv-loop μ-loop
 loop-holds c =
-    let l = c .before .before in
-    let s = l .before .before .before .before .before in
-    let w = now (s .args .weights) in
-    let samples = now (s .args .samples) in (
-      omega arith,
-      l .clear .ensures ∙ ap (λ (m : ℕ). tabulate m (λ x. zeroF)) (sym (s .pre .0)) ∙ sums-none w (tap samples (length samples) (length w / 2)) (length samples),
-    )
-
-beyond-requires : tie.Need-beyond-requires Inv-loop μ-loop
-beyond-requires c κs = search needs
-
-beyond-requires-2 : tie.Need-beyond-requires-2 Inv-loop μ-loop
-beyond-requires-2 c κs = search needs
-
-mul-add-shifted : tie.Need-mul-add-shifted Inv-loop μ-loop
-mul-add-shifted c = search needs
-
-shared-slice-read-add-shifted : tie.Need-shared-slice-read-add-shifted Inv-loop μ-loop
-shared-slice-read-add-shifted c = search needs
-
-add-shifted-requires : tie.Need-add-shifted-requires Inv-loop μ-loop
-add-shifted-requires c κs =
-    let b = c .before .before in
-    let l = b .before .before .before .loop in
-    let s = b .before .before .before .before .before .before .before .before .before .before .before in
+    let s = c .before .before .before in
     let n = length (now (s .args .samples)) in
-    tap-fits n (length (now (s .args .weights)) / 2) (l .k) (b .before .beyond .result) (b .beyond2 .result) (b .before .beyond .ensures) (b .beyond2 .ensures) (length (l .row)) (sym (ap length (l .inv .1) ∙ length-tabulate n _)) (s .pre .1)
+    filled-none (at (now (s .args .samples)) (now (s .args .weights)) n) n (now (s .args .row)) (sym (s .pre .0))
 
-add-k : tie.Need-add-k Inv-loop μ-loop
-add-k c = search needs
+inside-requires : tie.Need-inside-requires Inv-loop μ-loop
+inside-requires c κs = c .loop-test .taken
+
+-- where the samples from x on have their taps in the row: the function's start, and what was tested
+abbrev St : tie.Then1 Inv-loop μ-loop → tie.Start Inv-loop μ-loop
+St c = c .before .before .before .before .before .before .before
+
+abbrev r : tie.Then1 Inv-loop μ-loop → ℕ
+r c = radius (now (St c .args .weights))
+
+fits : (c : tie.Then1 Inv-loop μ-loop) → (r c ≤ c .before .before .before .loop .x) × (r c < length (now (St c .args .samples)) - c .before .before .before .loop .x)
+fits c = c .before .inside .ensures (c .if1 .taken)
+
+sub-end : tie.Need-sub-end Inv-loop μ-loop
+sub-end c = omega (arith, fits c .1)
+
+mul-sum-blocks : tie.Need-mul-sum-blocks Inv-loop μ-loop
+mul-sum-blocks c = omega (arith, c .before .before .loop-test .taken, St c .good .1 .0 .1)
+
+sub-sum-blocks : tie.Need-sub-sum-blocks Inv-loop μ-loop
+sub-sum-blocks c = omega (arith, fits c .1)
+
+part-sum-blocks-start : tie.Need-part-sum-blocks-start Inv-loop μ-loop
+part-sum-blocks-start c = omega (arith, fits c .1)
+
+part-sum-blocks-end : tie.Need-part-sum-blocks-end Inv-loop μ-loop
+part-sum-blocks-end c = omega (arith, fits c .1, c .before .before .before .loop .inv .whole)
+
+sub-sum-blocks-2 : tie.Need-sub-sum-blocks-2 Inv-loop μ-loop
+sub-sum-blocks-2 c = fits (c .before) .0
+
+sum-blocks-requires : tie.Need-sum-blocks-requires Inv-loop μ-loop
+sum-blocks-requires c κs =
+    let t = c .before in
+    let l = t .before .before .before .loop in
+    let n = length (now (St t .args .samples)) in
+    let b = part-length (l .row) (l .x) (n - r t) (n - r t - l .x) (omega (arith, fits t .1)) (omega (arith, fits t .1, l .inv .whole)) (omega (arith, fits t .1)) in
+    omega (arith, b, fits t .0, fits t .1)
 
 loop-less : tie.Need-loop-less Inv-loop μ-loop
-loop-less c = search needs
+loop-less c = omega (arith, fits (c .before .before .before .before) .1)
 
 loop-again : tie.Need-loop-again Inv-loop μ-loop
 loop-again c =
-    let t = c .before .before in
-    let b = t .before .before .before in
-    let l = b .before .before .before .loop in
-    let s = b .before .before .before .before .before .before .before .before .before .before .before in
-    let w = now (s .args .weights) in
-    let samples = now (s .args .samples) in
+    let q = c .before .before in
+    let t = q .before .before in
+    let l = t .before .before .before .loop in
+    let samples = now (St t .args .samples) in
+    let weights = now (St t .args .weights) in
     let n = length samples in
-    let r = length w / 2 in
-    let before = b .before .beyond .result in
-    let after = b .beyond2 .result in (
-      omega arith,
-      sums-more w (tap samples n r) n (l .k) (l .row) (t .add-shifted .last .0) (λ x. getD samples (repeated n before (x + after)) nan)
-          (λ x h. sym (ap (λ (p : ℕ). getD samples p nan) (tap-shift n r (l .k) before after (b .before .beyond .ensures) (b .beyond2 .ensures) x h)))
-          (t .add-shifted .ensures)
-          (l .inv .1),
-    )
+    let m = n - r t - l .x in
+    let b = part-length (l .row) (l .x) (n - r t) m (omega (arith, fits t .1)) (omega (arith, fits t .1, l .inv .whole)) (omega (arith, fits t .1)) in
+    filled-part (at samples weights n) n (l .x) (l .x) (n - r t) m (l .row) (q .sum-blocks .last .0) (omega arith) (omega arith) (omega (arith, fits t .1))
+    (q .sum-blocks .ensures
+    ∙ ap (λ (k : ℕ). sums weights (apart samples (l .x - r t) 1) k (length weights)) b
+    ∙ across-inner samples weights n (l .x) m (fits t .0) (omega (arith, fits t .1)))
+    (l .inv)
+
+blur-sample-requires : tie.Need-blur-sample-requires Inv-loop μ-loop
+blur-sample-requires c κs = c .before .before .loop-test .taken
+
+mul-row : tie.Need-mul-row Inv-loop μ-loop
+mul-row c = search needs
+
+slice-write-row : tie.Need-slice-write-row Inv-loop μ-loop
+slice-write-row c =
+    let t = c .before .before .before in
+    omega (arith, t .loop-test .taken, t .before .loop .inv .whole)
+
+add-x : tie.Need-add-x Inv-loop μ-loop
+add-x c = search needs
+
+loop-less-2 : tie.Need-loop-less-2 Inv-loop μ-loop
+loop-less-2 c = search needs
+
+loop-again-2 : tie.Need-loop-again-2 Inv-loop μ-loop
+loop-again-2 c =
+    let t = c .before .before .before in
+    let l = t .before .loop in
+    let s = t .before .before .before .before .before in
+    let samples = now (s .args .samples) in
+    let weights = now (s .args .weights) in
+    let n = length samples in
+    filled-one (at samples weights n) n (l .x) (l .row) (c .blur-sample .result) (t .loop-test .taken) (c .blur-sample .ensures) (l .inv)
 
 same-length : tie.Need-same-length Inv-loop μ-loop
 same-length c =
-    let l = c .before .loop in
-    let s = c .before .before .before .before .before .before .before .before .before in
-    ap length (l .inv .1) ∙ length-tabulate _ _ ∙ s .pre .0
+    c .before .loop .inv .whole ∙ c .before .before .before .before .before .pre .0
 
 returns : tie.Need-returns Inv-loop μ-loop
 returns c =
     let l = c .before .loop in
-    let s = c .before .before .before .before .before .before .before .before .before in
-    let w = now (s .args .weights) in
+    let s = c .before .before .before .before .before in
     let samples = now (s .args .samples) in
-    let e : l .k ≡ length w = omega (arith, l .inv .0, c .loop-test .left) in
-    l .inv .1
-    ∙ ap (sums w (tap samples (length samples) (length w / 2)) (length samples)) e
-    ∙ ap (λ (n : ℕ). tabulate n (along w n (λ x. getD samples x nan))) (s .pre .0)
+    let weights = now (s .args .weights) in
+    let n = length samples in
+    filled-all (at samples weights n) n (l .x) (l .row) (c .loop-test .left) (l .inv)
+    ∙ ap (λ (m : ℕ). tabulate m (at samples weights m)) (s .pre .0)
 
 pub blur-row-spec : {M : Type 1} → statement M
 blur-row-spec =
@@ -107,15 +137,22 @@ blur-row-spec =
     (tie.spec
     Inv-loop
     μ-loop
-    clear-requires
     loop-holds
-    beyond-requires
-    beyond-requires-2
-    mul-add-shifted
-    shared-slice-read-add-shifted
-    add-shifted-requires
-    add-k
+    inside-requires
+    sub-end
+    mul-sum-blocks
+    sub-sum-blocks
+    part-sum-blocks-start
+    part-sum-blocks-end
+    sub-sum-blocks-2
+    sum-blocks-requires
     loop-less
     loop-again
+    blur-sample-requires
+    mul-row
+    slice-write-row
+    add-x
+    loop-less-2
+    loop-again-2
     same-length
     returns)

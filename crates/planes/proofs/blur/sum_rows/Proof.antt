@@ -9,8 +9,9 @@ use lib.ListN.{length, getD, take, drop}
 use lib.Ieee.{Float, nan}
 use Rattle.lists.proofs.Tab.{length-tabulate}
 use Rattle.planes.specs.Blur.{repeated}
+use Rattle.planes.specs.Steps.{sums}
 use Rattle.planes.proofs.Rows.{row-fits, row-span, row-length, row-read}
-use Rattle.planes.proofs.Sums.{sums, sums-none, sums-more}
+use Rattle.planes.proofs.Sums.{sums-none, sums-more}
 use Rattle.planes.proofs.blur.sum_rows.Statement.{statement}
 use Rattle.planes.proofs.blur.sum_rows.Tie as tie
 
