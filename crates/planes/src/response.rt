@@ -1,4 +1,4 @@
-// The response, a row at a time.
+// The response, two rows at a time.
 use crate::blur::clear;
 ghost use mathlib.Core.Path.{_≡_};
 ghost use mathlib.Core.List.{_++_};

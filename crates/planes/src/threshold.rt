@@ -9,6 +9,7 @@ ghost use Rattle.lists.specs.Tab.{all, tabulate};
 ghost use Rattle.samples.specs.Samples.{tame};
 ghost use Rattle.planes.specs.Threshold.{lesser, lowestOf, lowest, thresholdOf, threshold};
 
+// The lesser of two, `a` where they are equal.
 fn lesser(a: f32, b: f32) -> f32
     ensures { λ r. ⌜ r ≡ lesser a b ⌝ }
 {
@@ -40,15 +41,15 @@ fn lowest_of(low: f32, samples: &[f32]) -> f32
     least
 }
 
-// What one pass over samples finds.
+// What one pass over a plane finds.
 struct Lowest {
     low: f32,
     tame: bool,
 }
 
 // The lowest sample, and whether every sample has a magnitude of at most 65,536. Where all have, `low` is the lowest as a
-// number: where that is zero, it may be either zero. Thirty-two lanes are gathered side by side, since each step of a single
-// one would wait for the step before it.
+// number: where it is zero, it may be either zero. Thirty-two lanes are gathered side by side, since each step of a single one
+// would wait for the step before it.
 fn find_lowest(samples: &[f32]) -> Lowest
     requires { ⌜ 0 < length (now samples) ⌝ }
     ensures { λ r. ⌜ (r .tame ≡ all tame (now (samples .entry))) × (r .tame ≡ true → eq (r .low) (lowest (now (samples .entry))) ≡ true) ⌝ }
@@ -74,6 +75,7 @@ fn find_lowest(samples: &[f32]) -> Lowest
     }
 }
 
+// The lowest sample times 0.05, where a zero is +0.0.
 fn threshold_of(low: f32) -> f32
     ensures { λ r. ⌜ r ≡ thresholdOf low ⌝ }
 {
@@ -81,13 +83,14 @@ fn threshold_of(low: f32) -> f32
     if t == 0.0 { 0.0 } else { t }
 }
 
-// The threshold of a response, and whether each of its samples has a magnitude of at most 65,536. Where one has not, the
-// threshold means nothing.
+// The threshold of a response, and whether every sample has a magnitude of at most 65,536. Where one has not, the threshold
+// means nothing.
 pub struct Found {
     pub threshold: f32,
     pub tame: bool,
 }
 
+// The threshold of a response, which is tested in the same pass.
 pub fn response_threshold(response: &[f32]) -> Found
     requires { ⌜ 0 < length (now response) ⌝ }
     ensures { λ r. ⌜ (r .tame ≡ all tame (now (response .entry))) × (r .tame ≡ true → r .threshold ≡ threshold (now (response .entry))) ⌝ }
