@@ -81,8 +81,9 @@ pub fn response_threshold(response: &[f32], shape: Shape) -> Threshold
     if bad_plane(response.len(), shape.width, shape.height) {
         return Threshold::Refused(1);
     }
-    if !all_tame(response) {
+    let found = threshold::response_threshold(response);
+    if !found.tame {
         return Threshold::Refused(3);
     }
-    Threshold::At(threshold::response_threshold(response))
+    Threshold::At(found.threshold)
 }

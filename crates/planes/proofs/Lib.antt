@@ -4,5 +4,6 @@ pub mod Sums
 pub mod Lines
 pub mod Border
 pub mod Order
+pub mod Pairs
 pub mod Equal
 pub mod Lowest

@@ -1,6 +1,6 @@
 -- The lowest of finite samples, and several lanes of lowest samples that are gathered side by side. Assumes nothing.
 use mathlib.Core.Path.{_≡_, refl, sym, ap, _∙_}
-use mathlib.Core.Bool.{Bool, true, false, _&&_, cond, true≢false}
+use mathlib.Core.Bool.{Bool, true, false, _&&_, and-assoc, cond, true≢false}
 use mathlib.Core.List.{List, [], _∷_}
 use Prim.Native.Nat.{ℕ, zero, suc, _+_, _-_, _≤_, _<_, suc-le-suc}
 use native.Mathlib.Nat.{not-suc-le-zero, le-of-suc-le-suc, zero-lt-suc}
@@ -8,8 +8,8 @@ use native.Mathlib.Numerals.{add-one}
 use native.Mathlib.Omega.{arith}
 use lib.Dec.{T}
 use native.Mathlib.Decide.{decLt}
-use lib.ListN.{length, getD, drop, replicate, length-replicate, getD-replicate, length-drop, drop-of-length-le}
-use lib.Seq.{getD-drop, drop-cons}
+use lib.ListN.{length, getD, take, drop, replicate, length-replicate, getD-replicate, length-drop, drop-of-length-le}
+use lib.Seq.{getD-drop, drop-cons, drop-drop}
 use lib.Ieee.{Float, nan, inf, fin, neg, ofBits, lt, eq, le}
 use lib.Ieee.Scale.{finite}
 use Rattle.lists.specs.Tab.{all, tabulate}
@@ -132,6 +132,19 @@ module _ (l : List Float) (some : 0 < length l) (fin-l : Finite l) where
       go : (l : List Float) → 0 < length l → Finite l → (z : Float) → ((i : ℕ) → i < length l → le z (getD l i nan) ≡ true) → le z (lowest l) ≡ true
       go [] s f z q = absurd (not-suc-le-zero s)
       go (v ∷ vs) s f z q = lowestOf-most v vs (f 0 s) (λ i b. f (suc i) (suc-le-suc b)) z (q 0 s) (λ i b. q (suc i) (suc-le-suc b))
+
+-- ---- a flag that is gathered over one part of a list after the other
+module _ (ok : Float → Bool) where
+  all-parts : (k : ℕ) (l : List Float) → all ok l ≡ all ok (take k l) && all ok (drop k l)
+  unfolding all
+  all-parts zero l = refl
+  all-parts (suc k) [] = refl
+  all-parts (suc k) (v ∷ vs) = ap (λ (x : Bool). ok v && x) (all-parts k vs) ∙ sym (and-assoc (ok v) (all ok (take k vs)) (all ok (drop k vs)))
+
+  pub gather-part : (l : List Float) (i k : ℕ) (good : Bool) → all ok l ≡ good && all ok (drop i l) → all ok l ≡ (good && all ok (take k (drop i l))) && all ok (drop (i + k) l)
+  gather-part l i k good inv =
+      inv ∙ ap (λ (x : Bool). good && x) (all-parts k (drop i l)) ∙ sym (and-assoc good (all ok (take k (drop i l))) (all ok (drop k (drop i l))))
+      ∙ ap (λ (x : List Float). (good && all ok (take k (drop i l))) && all ok x) (drop-drop k i l)
 
 -- ---- n lanes over the first i samples: none is below the lowest sample, and whatever is at most each lane is at most each of the first
 -- i samples

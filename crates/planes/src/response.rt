@@ -1,6 +1,7 @@
-// The response, a row at a time.
+// The response, two rows at a time.
 use crate::blur::clear;
 ghost use mathlib.Core.Path.{_≡_};
+ghost use mathlib.Core.List.{_++_};
 ghost use Prim.Native.Nat.{ℕ, _+_, _*_, _<_, _≤_};
 ghost use lib.ListN.{length, getD, take, drop};
 ghost use lib.Ieee.{nan};
@@ -45,6 +46,30 @@ fn respond_row(row: &mut [f32], above: &[f32], here: &[f32], below: &[f32])
     }
 }
 
+// Two rows off the border, one below the other in `pair`: the response at `upper` and at `lower`. Both determinants are worked
+// out before either is written, so that the samples which they share are read once.
+fn respond_pair(pair: &mut [f32], above: &[f32], upper: &[f32], lower: &[f32], below: &[f32])
+    requires { ⌜ (0 < length (now above)) × (length (now pair) ≡ length (now above) + length (now above)) × (length (now upper) ≡ length (now above)) × (length (now lower) ≡ length (now above)) × (length (now below) ≡ length (now above)) ⌝ }
+    ensures { λ _. ⌜ now (pair .exit) ≡ tabulate (length (now (above .entry))) (rowResponse (now (above .entry)) (now (upper .entry)) (now (lower .entry)) (length (now (above .entry)))) ++ tabulate (length (now (above .entry))) (rowResponse (now (upper .entry)) (now (lower .entry)) (now (below .entry)) (length (now (above .entry)))) ⌝ }
+{
+    let width = above.len();
+    let last = width - 1;
+    pair[0] = 0.0;
+    pair[width] = 0.0;
+    let mut x = 1;
+    while x < last {
+        let first = determinant_at(above, upper, lower, x);
+        let second = determinant_at(upper, lower, below, x);
+        pair[x] = first;
+        pair[width + x] = second;
+        x += 1;
+    }
+    if x < width {
+        pair[x] = 0.0;
+        pair[width + x] = 0.0;
+    }
+}
+
 // Row `y` of a plane.
 fn row_of(img: &[f32], width: usize, y: usize) -> &[f32]
     requires { ⌜ y * width + width ≤ length (now img) ⌝ }
@@ -67,9 +92,21 @@ fn inner_row(row: &mut [f32], img: &[f32], height: usize, y: usize)
     respond_row(row, above, here, below);
 }
 
-// The first and the last row are written outside of the loop. So every row that the loop could read lies in the plane, and the
-// compiler's test for overlap, which goes by those rows, does not keep the vector instructions from planes that stand side by
-// side in memory.
+// Rows `y` and `y + 1` of the response, neither of which is the first or the last.
+fn inner_pair(pair: &mut [f32], img: &[f32], width: usize, height: usize, y: usize)
+    requires { ⌜ (0 < width) × (length (now pair) ≡ width + width) × (0 < y) × (y + 2 < height) × (length (now img) ≡ width * height) ⌝ }
+    ensures { λ _. ⌜ now (pair .exit) ≡ tabulate (width + width) (λ p. responseAt (now (img .entry)) width height (y * width + p)) ⌝ }
+{
+    let above = row_of(img, width, y - 1);
+    let upper = row_of(img, width, y);
+    let lower = row_of(img, width, y + 1);
+    let below = row_of(img, width, y + 2);
+    respond_pair(pair, above, upper, lower, below);
+}
+
+// The rows off the border are written two at a time, and one that is left over by itself. The first and the last row are
+// written outside of the loops. So every row that a loop could read lies in the plane, and the compiler's test for overlap,
+// which goes by those rows, does not keep the vector instructions from planes that stand side by side in memory.
 pub fn hessian_response(img: &[f32], width: usize, height: usize, out: &mut [f32])
     requires { ⌜ (0 < width) × (0 < height) × (length (now img) ≡ width * height) × (length (now out) ≡ width * height) ⌝ }
     ensures { λ _. ⌜ now (out .exit) ≡ response (now (img .entry)) width height ⌝ }
@@ -77,6 +114,12 @@ pub fn hessian_response(img: &[f32], width: usize, height: usize, out: &mut [f32
     clear(&mut out[0..width]);
     let last = height - 1;
     let mut y = 1;
+    while y + 1 < last {
+        let start = y * width;
+        let end = start + width + width;
+        inner_pair(&mut out[start..end], img, width, height, y);
+        y += 2;
+    }
     while y < last {
         let start = y * width;
         let end = start + width;

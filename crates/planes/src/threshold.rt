@@ -1,4 +1,5 @@
 // The threshold.
+use samples::all_tame;
 ghost use mathlib.Core.Path.{_≡_};
 ghost use mathlib.Core.Bool.{true};
 ghost use Prim.Native.Nat.{_<_};
@@ -6,8 +7,9 @@ ghost use lib.ListN.{length, getD};
 ghost use lib.Ieee.{nan, eq};
 ghost use Rattle.lists.specs.Tab.{all, tabulate};
 ghost use Rattle.samples.specs.Samples.{tame};
-ghost use Rattle.planes.specs.Threshold.{lesser, lowestOf, lowest, threshold};
+ghost use Rattle.planes.specs.Threshold.{lesser, lowestOf, lowest, thresholdOf, threshold};
 
+// The lesser of two, `a` where they are equal.
 fn lesser(a: f32, b: f32) -> f32
     ensures { λ r. ⌜ r ≡ lesser a b ⌝ }
 {
@@ -39,28 +41,64 @@ fn lowest_of(low: f32, samples: &[f32]) -> f32
     least
 }
 
-// The lowest sample, as a number: where it is zero, it may be either zero. Sixteen lanes are gathered side by side, since
-// each step of a single one would wait for the step before it.
-fn lowest(samples: &[f32]) -> f32
-    requires { ⌜ (0 < length (now samples)) × (all tame (now samples) ≡ true) ⌝ }
-    ensures { λ r. ⌜ eq r (lowest (now (samples .entry))) ≡ true ⌝ }
+// What one pass over a plane finds.
+struct Lowest {
+    low: f32,
+    tame: bool,
+}
+
+// The lowest sample, and whether every sample has a magnitude of at most 65,536. Where all have, `low` is the lowest as a
+// number: where it is zero, it may be either zero. Thirty-two lanes are gathered side by side, since each step of a single one
+// would wait for the step before it.
+fn find_lowest(samples: &[f32]) -> Lowest
+    requires { ⌜ 0 < length (now samples) ⌝ }
+    ensures { λ r. ⌜ (r .tame ≡ all tame (now (samples .entry))) × (r .tame ≡ true → eq (r .low) (lowest (now (samples .entry))) ≡ true) ⌝ }
 {
     let first = samples[0];
-    let mut lanes = [first; 16];
+    let mut lanes = [first; 32];
+    let mut good = true;
     let mut i = 0;
-    while i + 16 <= samples.len() {
-        let next = i + 16;
-        lower_each(&mut lanes, &samples[i..next]);
+    while i + 32 <= samples.len() {
+        let next = i + 32;
+        let block = &samples[i..next];
+        good = good & all_tame(block);
+        lower_each(&mut lanes, block);
         i = next;
     }
     let gathered = lowest_of(first, &lanes);
-    lowest_of(gathered, &samples[i..])
+    let rest = &samples[i..];
+    let low = lowest_of(gathered, rest);
+    good = good & all_tame(rest);
+    Lowest {
+        low: low,
+        tame: good,
+    }
 }
 
-pub fn response_threshold(response: &[f32]) -> f32
-    requires { ⌜ (0 < length (now response)) × (all tame (now response) ≡ true) ⌝ }
-    ensures { λ r. ⌜ r ≡ threshold (now (response .entry)) ⌝ }
+// The lowest sample times 0.05, where a zero is +0.0.
+fn threshold_of(low: f32) -> f32
+    ensures { λ r. ⌜ r ≡ thresholdOf low ⌝ }
 {
-    let t = lowest(response) * 0.05;
+    let t = low * 0.05;
     if t == 0.0 { 0.0 } else { t }
+}
+
+// The threshold of a response, and whether every sample has a magnitude of at most 65,536. Where one has not, the threshold
+// means nothing.
+pub struct Found {
+    pub threshold: f32,
+    pub tame: bool,
+}
+
+// The threshold of a response, which is tested in the same pass.
+pub fn response_threshold(response: &[f32]) -> Found
+    requires { ⌜ 0 < length (now response) ⌝ }
+    ensures { λ r. ⌜ (r .tame ≡ all tame (now (response .entry))) × (r .tame ≡ true → r .threshold ≡ threshold (now (response .entry))) ⌝ }
+{
+    let lowest = find_lowest(response);
+    let threshold = threshold_of(lowest.low);
+    Found {
+        threshold: threshold,
+        tame: lowest.tame,
+    }
 }
