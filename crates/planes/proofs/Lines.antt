@@ -1,5 +1,5 @@
--- A row of a blurred plane, by the samples of that row, and by the rows of sums. Assumes nothing.
-use mathlib.Core.Path.{_≡_, refl, sym, ap, ap₂, _∙_}
+-- A row of a blurred plane, by the samples of that row, by the rows of sums, and by sums side by side. Assumes nothing.
+use mathlib.Core.Path.{_≡_, sym, ap, ap₂, _∙_}
 use mathlib.Core.List.{List}
 use Prim.Native.Nat.{ℕ, _+_, _-_, _*_, _<_, _≤_}
 use native.Mathlib.Nat.{add-mul}

@@ -8,11 +8,11 @@ use native.Mathlib.Nat.{le-refl, zero-add, suc-add, zero-lt-suc, zero-mul, mul-c
 use native.Mathlib.Numerals.{add-one-le}
 use native.Mathlib.Omega.{arith}
 use lib.ListN.{length, getD, set, take, drop, length-set, length-drop}
-use lib.Seq.{getD-take, getD-drop, length-take-le, take-append-add, take-at, take-take}
+use lib.Seq.{length-take-le, take-append-add, take-at, take-take}
 use Rattle.lists.specs.Tab.{tabulate}
 use Rattle.lists.proofs.Tab.{length-tabulate, written-none, written-more, written-all}
 use Rattle.lists.proofs.Grid.{next-row}
-use Rattle.planes.proofs.Part.{back, length-back}
+use Rattle.planes.proofs.Part.{part-read, back, length-back}
 
 -- row y lies in the plane
 pub row-fits : (w h y : ℕ) → y < h → y * w + w ≤ w * h
@@ -28,7 +28,7 @@ module _ {ℓ} {A : Type ℓ} where
   row-length l w y k e fits = length-take-le k (drop (y * w) l) (omega (arith, length-drop (y * w) l)) ∙ e
 
   pub row-read : (l : List A) (w y k : ℕ) → k ≡ w → (x : ℕ) (d : A) → x < w → getD (take k (drop (y * w) l)) x d ≡ getD l (y * w + x) d
-  row-read l w y k e x d h = getD-take k (drop (y * w) l) x d (omega arith) ∙ getD-drop (y * w) l x d
+  row-read l w y k e x d h = part-read l (y * w) k x d (omega arith)
 
   -- two functions that agree below n
   pub tabulate-ext : (n : ℕ) (f g : ℕ → A) → ((i : ℕ) → i < n → f i ≡ g i) → tabulate n f ≡ tabulate n g

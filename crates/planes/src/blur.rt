@@ -4,7 +4,7 @@
 // are made one at a time across, and a whole row at a time down.
 ghost use mathlib.Core.Path.{_≡_};
 ghost use mathlib.Core.Bool.{true};
-ghost use Prim.Native.Nat.{ℕ, _+_, _-_, _*_, _/_, _<_, _≤_, min};
+ghost use Prim.Native.Nat.{_+_, _-_, _*_, _<_, _≤_, min};
 ghost use lib.ListN.{length, getD};
 ghost use lib.Ieee.{nan};
 ghost use Rattle.lists.specs.Tab.{tabulate};

@@ -1,11 +1,11 @@
 -- The loop keeps: the first x samples are blurred.
 use borrow.Author.Needs.{needs}
 use denote.Ref.{now}
-use mathlib.Core.Path.{_≡_, sym, ap, _∙_}
+use mathlib.Core.Path.{sym, ap, _∙_}
 use mathlib.Core.List.{List}
-use Prim.Native.Nat.{ℕ, _+_, _-_, _/_, _≤_, _<_}
+use Prim.Native.Nat.{ℕ, _-_, _≤_, _<_}
 use native.Mathlib.Omega.{arith}
-use lib.ListN.{length, getD, take, drop}
+use lib.ListN.{length, getD}
 use lib.Ieee.{Float, nan}
 use Rattle.lists.specs.Tab.{tabulate}
 use Rattle.planes.specs.Blur.{along, radius}
@@ -68,7 +68,7 @@ sum-blocks-requires c κs =
     let t = c .before in
     let l = t .before .before .before .loop in
     let n = length (now (St t .args .samples)) in
-    let b = part-length (l .row) (l .x) (n - r t) (n - r t - l .x) (omega (arith, fits t .1)) (omega (arith, fits t .1, l .inv .whole)) (omega (arith, fits t .1)) in
+    let b = part-length (l .row) (l .x) (n - r t) (n - r t - l .x) (omega (arith, fits t .1, l .inv .whole)) (omega (arith, fits t .1)) in
     omega (arith, b, fits t .0, fits t .1)
 
 loop-less : tie.Need-loop-less Inv-loop μ-loop
@@ -83,7 +83,7 @@ loop-again c =
     let weights = now (St t .args .weights) in
     let n = length samples in
     let m = n - r t - l .x in
-    let b = part-length (l .row) (l .x) (n - r t) m (omega (arith, fits t .1)) (omega (arith, fits t .1, l .inv .whole)) (omega (arith, fits t .1)) in
+    let b = part-length (l .row) (l .x) (n - r t) m (omega (arith, fits t .1, l .inv .whole)) (omega (arith, fits t .1)) in
     filled-part (at samples weights n) n (l .x) (l .x) (n - r t) m (l .row) (q .sum-blocks .last .0) (omega arith) (omega arith) (omega (arith, fits t .1))
     (q .sum-blocks .ensures
     ∙ ap (λ (k : ℕ). sums weights (apart samples (l .x - r t) 1) k (length weights)) b

@@ -1,7 +1,7 @@
 -- The loop keeps: the first x sums are made.
 use borrow.Author.Needs.{needs}
 use denote.Ref.{now}
-use mathlib.Core.Path.{_≡_, refl, sym, ap, _∙_}
+use mathlib.Core.Path.{refl, ap, _∙_}
 use mathlib.Core.List.{List}
 use Prim.Native.Nat.{ℕ, _+_, _-_, _≤_}
 use native.Mathlib.Omega.{arith}
@@ -75,7 +75,7 @@ sum-block-requires c κs =
     let t = c .before in
     let l = t .before .before .loop in
     let from = t .least .result in (
-      part-length (l .row) from (from + 16) 16 (omega arith) (omega (arith, fits t .0, l .inv .whole)) refl,
+      part-length (l .row) from (from + 16) 16 (omega (arith, fits t .0, l .inv .whole)) refl,
       omega (arith, fits t .0, St t .pre),
     )
 

@@ -1,13 +1,12 @@
 -- The loop keeps: each sum is that of the first k weights.
 use borrow.Author.Needs.{needs}
 use denote.Ref.{now}
-use mathlib.Core.Path.{_≡_, sym, ap, _∙_}
-use mathlib.Core.List.{List}
-use Prim.Native.Nat.{ℕ, _+_, _-_, _*_, _≤_, _<_}
+use mathlib.Core.Path.{_≡_, refl, sym, ap, _∙_}
+use Prim.Native.Nat.{_+_, _-_, _*_, _≤_}
 use native.Mathlib.Nat.{mul-le-mul-right}
 use native.Mathlib.Omega.{arith}
 use lib.ListN.{length, getD, take, drop}
-use lib.Ieee.{Float, nan}
+use lib.Ieee.{nan}
 use Rattle.lists.proofs.Tab.{length-tabulate}
 use Rattle.planes.specs.Steps.{apart, sums}
 use Rattle.planes.proofs.Part.{part-length, part-read}
@@ -74,7 +73,7 @@ add-weighted-requires c κs =
     let s = St t in
     let n = length (now (s .args .row)) in
     let from = t .before .loop .k * s .args .step + s .args .start in
-    part-length (now (s .args .img)) from (from + n) n (omega arith) (fits t) (omega arith)
+    part-length (now (s .args .img)) from (from + n) n (fits t) refl
     ∙ sym (ap length (t .before .loop .inv .1) ∙ length-tabulate n _)
 
 add-k : tie.Need-add-k Inv-loop μ-loop
