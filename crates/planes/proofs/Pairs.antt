@@ -1,6 +1,6 @@
 -- Two rows that are written side by side, and what they make of a plane. A loop that writes place x of both keeps `Pair`:
 -- `pair-none`, `pair-more`, `pair-all`. Assumes nothing.
-use mathlib.Core.Path.{_≡_, refl, sym, ap, ap₂, _∙_}
+use mathlib.Core.Path.{_≡_, sym, ap, ap₂, _∙_}
 use mathlib.Core.List.{List, _++_}
 use Prim.Native.Nat.{ℕ, _+_, _-_, _*_, _≤_, _<_}
 use native.Mathlib.Nat.{mul-comm, mul-le-mul-right}

@@ -1,21 +1,18 @@
+-- The loop keeps: the places before x of both rows are written.
 use borrow.Author.Needs.{needs}
 use denote.Ref.{now}
-use mathlib.Core.Path.{_≡_, refl, sym, ap, _∙_}
-use mathlib.Core.List.{List}
-use Prim.Native.Nat.{ℕ, _+_, _-_, _≤_, _<_}
+use mathlib.Core.Path.{_≡_, refl, sym, _∙_}
+use Prim.Native.Nat.{_+_, _-_, _<_}
 use native.Mathlib.Nat.{add-zero}
 use native.Mathlib.Omega.{arith}
 use lib.ListN.{length, set, length-set}
-use lib.Ieee.{Float}
+use lib.Seq.{lt-length-set}
 use Rattle.samples.specs.Samples.{zeroF}
 use Rattle.planes.specs.Steps.{rowResponse}
-use Rattle.planes.proofs.Border.{first-end, last-end, off-end, row-end, row-off}
+use Rattle.planes.proofs.Border.{last-end, off-end, row-end, row-off}
 use Rattle.planes.proofs.Pairs.{Pair, pair-none, pair-more, pair-all}
 use Rattle.planes.proofs.response.respond_pair.Statement.{statement}
 use Rattle.planes.proofs.response.respond_pair.Tie as tie
-use Rattle.planes.proofs.response.respond_pair.Reads as reads
-use Rattle.planes.proofs.response.respond_pair.Lts as lts
-use Rattle.planes.proofs.response.determinant_at.Reads as determinant-at-reads
 
 abbrev Inv-loop : tie.InvT-loop
 Inv-loop pair₀ above upper lower below width last x₀ pair x = (0 < x) × Pair (rowResponse above upper lower (length above)) (rowResponse upper lower below (length above)) (length above) x pair
@@ -35,21 +32,11 @@ mul-pair c = search needs
 slice-write-pair-2 : tie.Need-slice-write-pair-2 Inv-loop μ-loop
 slice-write-pair-2 c =
     let s = c .before .before .before .before .before in
-    omega (arith, s .pre, length-set (now (s .args .pair)) 0 zeroF)
+    lt-length-set (now (s .args .pair)) 0 _ (omega (arith, s .pre))
 
 -- at the loop's head: the function's start
 abbrev St : tie.At-loop Inv-loop μ-loop → tie.Start Inv-loop μ-loop
 St c = c .before .before .before .before .before .before
-
--- one more place of both rows is written
-more : (c : tie.At-loop Inv-loop μ-loop) (x : ℕ) (pair : List Float) (u v : Float) → let a = St c .args in let n = length (now (a .above)) in
-    x < n → u ≡ rowResponse (now (a .above)) (now (a .upper)) (now (a .lower)) n x → v ≡ rowResponse (now (a .upper)) (now (a .lower)) (now (a .below)) n x
-    → Pair (rowResponse (now (a .above)) (now (a .upper)) (now (a .lower)) n) (rowResponse (now (a .upper)) (now (a .lower)) (now (a .below)) n) n x pair
-    → Pair (rowResponse (now (a .above)) (now (a .upper)) (now (a .lower)) n) (rowResponse (now (a .upper)) (now (a .lower)) (now (a .below)) n) n (x + 1) (set (set pair x u) (n + x) v)
-more c x pair u v =
-    let a = St c .args in
-    let n = length (now (a .above)) in
-    pair-more (rowResponse (now (a .above)) (now (a .upper)) (now (a .lower)) n) (rowResponse (now (a .upper)) (now (a .lower)) (now (a .below)) n) n x pair u v
 
 loop-holds : tie.Need-loop-holds Inv-loop μ-loop
 loop-holds c =
@@ -95,7 +82,7 @@ slice-write-pair-4 : tie.Need-slice-write-pair-4 Inv-loop μ-loop
 slice-write-pair-4 c =
     let t = c .before .before in
     let l = t .before .loop in
-    omega (arith, l .inv .1 .whole, t .loop-test .taken, length-set (l .pair) (l .x) (c .before .determinant-at .result))
+    lt-length-set (l .pair) (l .x) _ (omega (arith, l .inv .1 .whole, t .loop-test .taken))
 
 add-x : tie.Need-add-x Inv-loop μ-loop
 add-x c = search needs
@@ -113,7 +100,7 @@ loop-again c =
     let b : l .x + 1 < n = omega (arith, t .loop-test .taken) in
     let e = off-end n (l .x) (l .inv .0) b in (
       omega arith,
-      more (t .before) (l .x) (l .pair) (c .before .determinant-at .result) (c .determinant-at2 .result) (omega arith)
+      pair-more (rowResponse (now (a .above)) (now (a .upper)) (now (a .lower)) n) (rowResponse (now (a .upper)) (now (a .lower)) (now (a .below)) n) n (l .x) (l .pair) (c .before .determinant-at .result) (c .determinant-at2 .result) (omega arith)
           (c .before .determinant-at .ensures ∙ row-off (now (a .above)) (now (a .upper)) (now (a .lower)) n (l .x) e)
           (c .determinant-at2 .ensures ∙ row-off (now (a .upper)) (now (a .lower)) (now (a .below)) n (l .x) e)
           (l .inv .1),
@@ -140,7 +127,7 @@ mul-pair-5 c =
 slice-write-pair-6 : tie.Need-slice-write-pair-6 Inv-loop μ-loop
 slice-write-pair-6 c =
     let l = c .before .before .loop in
-    omega (arith, c .if1 .taken, l .inv .1 .whole, length-set (l .pair) (l .x) zeroF)
+    lt-length-set (l .pair) (l .x) _ (omega (arith, c .if1 .taken, l .inv .1 .whole))
 
 same-length : tie.Need-same-length Inv-loop μ-loop
 same-length c =

@@ -1,5 +1,5 @@
 -- A product that is zero gives +0.0, any other itself.
-use mathlib.Core.Path.{_≡_, sym, ap}
+use mathlib.Core.Path.{sym, ap}
 use mathlib.Core.Bool.{Bool, cond}
 use lib.Ieee.{binary32, mul}
 use Rattle.samples.specs.Samples.{zeroF}
