@@ -3,3 +3,5 @@ pub mod All
 pub mod Grid
 pub mod Sum
 pub mod Each
+pub mod Part
+pub mod Rows

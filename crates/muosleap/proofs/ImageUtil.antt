@@ -14,9 +14,9 @@ use Rattle.refusals.specs.declared.Shape.{Shape}
 use Rattle.lists.proofs.All.{or-left, or-right}
 use Rattle.refusals.proofs.Plane.{Plane}
 use Rattle.samples.specs.Samples.{inUnit, tame}
-use Rattle.planes.specs.Blur.{badWeights, across, down}
-use Rattle.planes.specs.Response.{response}
-use Rattle.planes.specs.Threshold.{threshold}
+use Rattle.blur.specs.Blur.{badWeights, across, down}
+use Rattle.response.specs.Response.{response}
+use Rattle.threshold.specs.Threshold.{threshold}
 use Rattle.muosleap.specs.ImageUtil.{misshapen, AfterBlur, gaussianBlur, AfterResponse, hessianResponse, responseThreshold}
 
 -- what weights that refusal 2 lets through are like

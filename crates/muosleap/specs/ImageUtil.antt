@@ -9,9 +9,9 @@ use Rattle.refusals.specs.Outcome.{Outcome, accepted, refused, Done}
 use Rattle.refusals.specs.Plane.{badPlane}
 use Rattle.refusals.specs.declared.Shape.{Shape}
 use Rattle.samples.specs.Samples.{inUnit, tame}
-use Rattle.planes.specs.Blur.{badWeights, across, down}
-use Rattle.planes.specs.Response.{response}
-use Rattle.planes.specs.Threshold.{threshold}
+use Rattle.blur.specs.Blur.{badWeights, across, down}
+use Rattle.response.specs.Response.{response}
+use Rattle.threshold.specs.Threshold.{threshold}
 use Rattle.muosleap.specs.declared.image_util.Filled.{Filled}
 use Rattle.muosleap.specs.declared.image_util.Filled.the-variants as filled
 use Rattle.muosleap.specs.declared.image_util.Threshold.{Threshold}

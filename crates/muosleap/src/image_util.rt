@@ -1,10 +1,8 @@
 // Planes of f32 samples, after the file of this name of the Rust. Each function takes any input: it answers with the number
 // of a refusal, and then has written nothing, or does its work.
-use planes::blur::bad_weights;
-use planes::blur::blur_across;
-use planes::blur::blur_down;
-use planes::response;
-use planes::threshold;
+use blur::bad_weights;
+use blur::blur_across;
+use blur::blur_down;
 use refusals::Shape;
 use refusals::bad_plane;
 use samples::all_in_unit;

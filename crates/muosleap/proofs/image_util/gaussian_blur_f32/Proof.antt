@@ -5,7 +5,7 @@ use mathlib.Core.Bool.{false, not}
 use Rattle.lists.specs.Tab.{all}
 use Rattle.refusals.proofs.Plane.{good-plane}
 use Rattle.samples.specs.Samples.{inUnit}
-use Rattle.planes.specs.Blur.{badWeights}
+use Rattle.blur.specs.Blur.{badWeights}
 use Rattle.muosleap.specs.ImageUtil.{misshapen}
 use Rattle.muosleap.proofs.ImageUtil.{few-weights, blur-img, blur-temp, blur-out, blur-weights, blur-samples, blur-done}
 use borrow.Author.Needs.{needs}

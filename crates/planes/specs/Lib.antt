@@ -1,4 +1,0 @@
-pub mod Blur
-pub mod Response
-pub mod Threshold
-pub mod Steps

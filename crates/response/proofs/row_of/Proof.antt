@@ -1,0 +1,37 @@
+-- The part from the row's start to its end is as long as the row is wide.
+use denote.Ref.{now}
+use mathlib.Core.Path.{ap}
+use Prim.Native.Nat.{ℕ, _*_}
+use lib.ListN.{take, drop}
+use Rattle.lists.proofs.Rows.{row-span}
+use borrow.Author.Needs.{needs}
+use Rattle.response.proofs.row_of.Statement.{statement}
+use Rattle.response.proofs.row_of.Tie as tie
+
+mul-start : tie.Need-mul-start
+mul-start c = search needs
+
+add-end : tie.Need-add-end
+add-end c = search needs
+
+mul-result : tie.Need-mul-result
+mul-result c = search needs
+
+sub-result : tie.Need-sub-result
+sub-result c = search needs
+
+part-result-start : tie.Need-part-result-start
+part-result-start c = search needs
+
+part-result-end : tie.Need-part-result-end
+part-result-end c = search needs
+
+returns : tie.Need-returns
+returns c =
+    let a = c .before .args in
+    ap (λ (k : ℕ). take k (drop (a .y * a .width) (now (a .img)))) (row-span (a .width) (a .y))
+
+pub row-of-spec : {M : Type 1} → statement M
+row-of-spec =
+    tie.close
+    (tie.spec mul-start add-end mul-result sub-result part-result-start part-result-end returns)
