@@ -4,6 +4,3 @@ pub mod BitCode
 pub mod Quad
 pub mod Quads
 pub mod PaintTag
-pub mod ImageUtil
-pub mod SaddleClusters
-pub mod ClusterCenter

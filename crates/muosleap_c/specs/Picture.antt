@@ -6,8 +6,8 @@ use lib.Ieee.{Float}
 use Rattle.points.specs.declared.Point.{Point}
 use Rattle.refusals.specs.Outcome.{Outcome, accepted, refused, number}
 use Rattle.refusals.specs.declared.Shape.{Shape}
-use Rattle.muosleap.specs.ImageUtil.{AfterBlur, AfterResponse}
-use Rattle.muosleap.specs.SaddleClusters.{Call, WorklistKept}
+use Rattle.muosleap_picture.specs.ImageUtil.{AfterBlur, AfterResponse}
+use Rattle.muosleap_picture.specs.SaddleClusters.{Call, WorklistKept}
 use Rattle.muosleap_c.specs.Kept.{valueOr}
 
 -- the sides of a plane, from two parameters

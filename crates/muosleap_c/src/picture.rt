@@ -1,15 +1,15 @@
 // Picture to clusters, for C: the entries of muosleap's image_util and saddles. Planes, worklist and rows are lent on to the entry.
-use muosleap::image_util::Filled;
-use muosleap::image_util::Threshold;
-use muosleap::saddles::Center;
-use muosleap::saddles::Clusters;
+use muosleap_picture::image_util::Filled;
+use muosleap_picture::image_util::Threshold;
+use muosleap_picture::saddles::Center;
+use muosleap_picture::saddles::Clusters;
 use refusals::Shape;
 ghost use mathlib.Core.Path.{_≡_};
 ghost use lib.ListN.{length};
 ghost use Rattle.refusals.specs.Outcome.{number};
-ghost use Rattle.muosleap.specs.ImageUtil.{gaussianBlur, hessianResponse, responseThreshold};
-ghost use Rattle.muosleap.specs.SaddleClusters.{initSaddleClusters, WorklistKept};
-ghost use Rattle.muosleap.specs.ClusterCenter.{clusterCenter};
+ghost use Rattle.muosleap_picture.specs.ImageUtil.{gaussianBlur, hessianResponse, responseThreshold};
+ghost use Rattle.muosleap_picture.specs.SaddleClusters.{initSaddleClusters, WorklistKept};
+ghost use Rattle.muosleap_picture.specs.ClusterCenter.{clusterCenter};
 ghost use Rattle.muosleap_c.specs.Kept.{valueOr};
 ghost use Rattle.muosleap_c.specs.Picture.{sides, Blurred, Responded, Clustered, centerOr};
 
@@ -28,7 +28,7 @@ pub extern "C" fn muosleap_gaussian_blur_f32(
         width: width,
         height: height,
     };
-    match muosleap::image_util::gaussian_blur_f32(img, shape, weights, temp, out) {
+    match muosleap_picture::image_util::gaussian_blur_f32(img, shape, weights, temp, out) {
         Filled::Done => 0,
         Filled::Refused(n) => n as u32,
     }
@@ -47,7 +47,7 @@ pub extern "C" fn muosleap_hessian_response(
         width: width,
         height: height,
     };
-    match muosleap::image_util::hessian_response(img, shape, out) {
+    match muosleap_picture::image_util::hessian_response(img, shape, out) {
         Filled::Done => 0,
         Filled::Refused(n) => n as u32,
     }
@@ -66,7 +66,7 @@ pub extern "C" fn muosleap_response_threshold(
         width: width,
         height: height,
     };
-    match muosleap::image_util::response_threshold(response, shape) {
+    match muosleap_picture::image_util::response_threshold(response, shape) {
         Threshold::At(t) => {
             *threshold = t;
             0
@@ -91,7 +91,7 @@ pub extern "C" fn muosleap_init_saddle_clusters(
         width: width,
         height: height,
     };
-    match muosleap::saddles::init_saddle_clusters(h_mat, shape, threshold, worklist, rows) {
+    match muosleap_picture::saddles::init_saddle_clusters(h_mat, shape, threshold, worklist, rows) {
         Clusters::Total(n) => {
             *total = n;
             0
@@ -109,7 +109,7 @@ pub extern "C" fn muosleap_cluster_center(
 ) -> u32
     ensures { λ r. ⌜ (r ≡ number (clusterCenter «sum_x» «sum_y» count)) × (now (center .exit) ≡ centerOr (now (center .entry)) (clusterCenter «sum_x» «sum_y» count)) ⌝ }
 {
-    match muosleap::saddles::cluster_center(sum_x, sum_y, count) {
+    match muosleap_picture::saddles::cluster_center(sum_x, sum_y, count) {
         Center::At(p) => {
             *center = [p.x, p.y];
             0

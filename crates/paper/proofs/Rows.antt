@@ -12,8 +12,8 @@ use Rattle.muosleap.specs.BitCode.{bitCode}
 use Rattle.refusals.specs.Plane.{badSides, badPlane}
 use Rattle.clusters.specs.Connected.{beside, reach}
 use Rattle.clusters.specs.Clusters.{border, any, written, seed, clustered, first, rowsOf}
-use Rattle.muosleap.specs.ImageUtil.{hessianResponse}
-use Rattle.muosleap.specs.SaddleClusters.{initSaddleClusters}
+use Rattle.muosleap_picture.specs.ImageUtil.{hessianResponse}
+use Rattle.muosleap_picture.specs.SaddleClusters.{initSaddleClusters}
 use Rattle.paper.specs.Rows.{Row, rows}
 
 pub rows-hold : map (λ (r : Row). r .worked) rows ≡ map (λ (r : Row). r .says) rows

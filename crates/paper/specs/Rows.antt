@@ -16,8 +16,8 @@ use Rattle.search.specs.Search.{Seen}
 use Rattle.tag_families.specs.Codes.{t16h5}
 use Rattle.muosleap.specs.Codes.{turned, bestTag}
 use Rattle.muosleap.specs.BitCode.{bitCode}
-use Rattle.muosleap.specs.ImageUtil.{hessianResponse}
-use Rattle.muosleap.specs.SaddleClusters.{Call, initSaddleClusters}
+use Rattle.muosleap_picture.specs.ImageUtil.{hessianResponse}
+use Rattle.muosleap_picture.specs.SaddleClusters.{Call, initSaddleClusters}
 
 pub record Row : Type 0 where
   pub worked : List ℕ

@@ -1,6 +1,6 @@
 // Frames of the clusters and the centres.
-use muosleap::saddles::Center;
-use muosleap::saddles::Clusters;
+use muosleap_picture::saddles::Center;
+use muosleap_picture::saddles::Clusters;
 use refusals::Shape;
 use vectors::floats::f32_at;
 use vectors::floats::f32s;
@@ -27,7 +27,7 @@ fn walked(
     worklist: &mut [u32],
     rows: &mut [u64],
 ) -> usize {
-    match muosleap::saddles::init_saddle_clusters(plane, shape, threshold, worklist, rows) {
+    match muosleap_picture::saddles::init_saddle_clusters(plane, shape, threshold, worklist, rows) {
         Clusters::Total(total) => total,
         Clusters::Refused(_) => 65536,
     }
@@ -151,7 +151,11 @@ pub fn patterns_alike(frame: &[u8]) -> bool {
 }
 
 pub fn center_alike(frame: &[u8]) -> bool {
-    match muosleap::saddles::cluster_center(u64_at(frame, 1), u64_at(frame, 9), u64_at(frame, 17)) {
+    match muosleap_picture::saddles::cluster_center(
+        u64_at(frame, 1),
+        u64_at(frame, 9),
+        u64_at(frame, 17),
+    ) {
         Center::At(p) => u8_at(frame, 25) == 0
             && pattern_of(p.x) == u32_at(frame, 26)
             && pattern_of(p.y) == u32_at(frame, 30),
@@ -166,7 +170,7 @@ fn number(frame: &[u8], plane: &mut [f32], worklist: &mut [u32]) -> u8 {
         height: u64_at(frame, 9) as usize,
     };
     plane_frames::lend(rest(frame, 18), plane);
-    match muosleap::saddles::init_saddle_clusters(
+    match muosleap_picture::saddles::init_saddle_clusters(
         plane,
         shape,
         f32_at(frame, 34),

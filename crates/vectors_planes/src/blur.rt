@@ -1,7 +1,7 @@
 // Frames of the blur: a plane, or a digest of a large one.
 ghost use Prim.Native.Nat.{_≤_};
 ghost use lib.ListN.{length};
-use muosleap::image_util::Filled;
+use muosleap_picture::image_util::Filled;
 use vectors::first;
 use vectors::floats::f32s;
 use vectors::floats::f32s_alike;
@@ -27,7 +27,7 @@ fn blurred(frame: &[u8], img: &[f32], temp: &mut [f32], out: &mut [f32]) -> bool
     let mut weights = [0.0f32; 16];
     let count = weight_count(frame);
     f32s(rest(frame, 4), &mut weights);
-    match muosleap::image_util::gaussian_blur_f32(
+    match muosleap_picture::image_util::gaussian_blur_f32(
         img,
         plane_frames::shape(frame),
         &weights[0..count],

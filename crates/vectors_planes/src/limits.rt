@@ -1,7 +1,7 @@
 // Frames that say which number a call of an entry on planes answers, 0 where it is accepted.
-use muosleap::image_util;
-use muosleap::image_util::Filled;
-use muosleap::image_util::Threshold;
+use muosleap_picture::image_util;
+use muosleap_picture::image_util::Filled;
+use muosleap_picture::image_util::Threshold;
 use refusals::Shape;
 use vectors::plane_frames::lend;
 use vectors::plane_frames::length_at;

@@ -1,8 +1,8 @@
 // Frames of the response and its threshold.
 ghost use Prim.Native.Nat.{_≤_};
 ghost use lib.ListN.{length};
-use muosleap::image_util::Filled;
-use muosleap::image_util::Threshold;
+use muosleap_picture::image_util::Filled;
+use muosleap_picture::image_util::Threshold;
 use vectors::floats::f32s;
 use vectors::floats::f32s_alike;
 use vectors::floats::pattern_of;
@@ -14,7 +14,7 @@ use vectors::u32_at;
 use vectors::u64_at;
 
 fn responded(frame: &[u8], img: &[f32], out: &mut [f32]) -> bool {
-    match muosleap::image_util::hessian_response(img, plane_frames::shape(frame), out) {
+    match muosleap_picture::image_util::hessian_response(img, plane_frames::shape(frame), out) {
         Filled::Done => true,
         Filled::Refused(_) => false,
     }
@@ -44,7 +44,10 @@ pub fn threshold_alike(frame: &[u8]) -> bool {
     let mut plane = [0.0f32; 4096];
     let n = plane_frames::count(frame);
     f32s(rest(frame, 7), &mut plane);
-    match muosleap::image_util::response_threshold(&plane[0..n], plane_frames::shape(frame)) {
+    match muosleap_picture::image_util::response_threshold(
+        &plane[0..n],
+        plane_frames::shape(frame),
+    ) {
         Threshold::At(lowest) => pattern_of(lowest) == u32_at(frame, 3),
         Threshold::Refused(_) => false,
     }

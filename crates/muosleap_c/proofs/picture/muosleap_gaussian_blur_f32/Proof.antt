@@ -1,7 +1,7 @@
 -- The entry's outcome, taken apart. Assumes nothing.
 use mathlib.Core.Path.{sym, ap, _∙_}
 use Rattle.refusals.specs.Outcome.{number}
-use Rattle.muosleap.specs.ImageUtil.{AfterBlur, paperFilled}
+use Rattle.muosleap_picture.specs.ImageUtil.{AfterBlur, paperFilled}
 use borrow.Author.Needs.{needs}
 use Rattle.muosleap_c.proofs.picture.muosleap_gaussian_blur_f32.Statement.{statement}
 use Rattle.muosleap_c.proofs.picture.muosleap_gaussian_blur_f32.Tie as tie

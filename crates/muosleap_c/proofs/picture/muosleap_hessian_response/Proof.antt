@@ -1,7 +1,7 @@
 -- The entry's outcome, taken apart. Assumes nothing.
 use mathlib.Core.Path.{sym, ap, _∙_}
 use Rattle.refusals.specs.Outcome.{number}
-use Rattle.muosleap.specs.ImageUtil.{AfterResponse, paperFilled}
+use Rattle.muosleap_picture.specs.ImageUtil.{AfterResponse, paperFilled}
 use borrow.Author.Needs.{needs}
 use Rattle.muosleap_c.proofs.picture.muosleap_hessian_response.Statement.{statement}
 use Rattle.muosleap_c.proofs.picture.muosleap_hessian_response.Tie as tie

@@ -2,7 +2,7 @@
 use mathlib.Core.Path.{sym, ap, subst, _∙_}
 use denote.Ref.{now}
 use Rattle.refusals.specs.Outcome.{number}
-use Rattle.muosleap.specs.SaddleClusters.{Call, paperClusters, WorklistKept}
+use Rattle.muosleap_picture.specs.SaddleClusters.{Call, paperClusters, WorklistKept}
 use Rattle.muosleap_c.specs.Kept.{valueOr}
 use borrow.Author.Needs.{needs}
 use Rattle.muosleap_c.proofs.picture.muosleap_init_saddle_clusters.Statement.{statement}

@@ -2,7 +2,7 @@
 use mathlib.Core.Path.{sym, ap, _∙_}
 use denote.Ref.{now}
 use Rattle.refusals.specs.Outcome.{number}
-use Rattle.muosleap.specs.ImageUtil.{paperThreshold}
+use Rattle.muosleap_picture.specs.ImageUtil.{paperThreshold}
 use Rattle.muosleap_c.specs.Kept.{valueOr}
 use borrow.Author.Needs.{needs}
 use Rattle.muosleap_c.proofs.picture.muosleap_response_threshold.Statement.{statement}

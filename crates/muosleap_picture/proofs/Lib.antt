@@ -1,0 +1,2 @@
+pub mod ImageUtil
+pub mod SaddleClusters

@@ -1,0 +1,3 @@
+pub mod ImageUtil
+pub mod SaddleClusters
+pub mod ClusterCenter
