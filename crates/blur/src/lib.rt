@@ -9,7 +9,6 @@ ghost use Prim.Native.Nat.{_+_, _-_, _*_, _<_, _≤_, min};
 ghost use lib.ListN.{length, getD};
 ghost use lib.Ieee.{nan};
 ghost use Rattle.lists.specs.Tab.{tabulate};
-ghost use Rattle.samples.specs.Samples.{zeroF};
 ghost use Rattle.blur.specs.Blur.{badWeights, along, repeated, across, down};
 ghost use Rattle.blur.specs.Steps.{added, apart, sums};
 
