@@ -1,20 +1,18 @@
 -- What a list reading leaves in its outputs: at each quad's place that quad's own reading, and nothing else. Assumes nothing.
-use mathlib.Core.Path.{_≡_, refl, sym, ap, _∙_}
+use mathlib.Core.Path.{_≡_, refl, ap, _∙_}
 use mathlib.Core.Bool.{false}
-use mathlib.Core.List.{List, [], _∷_, flatMap}
-use Prim.Native.Nat.{ℕ, zero, suc, _+_, _*_, _≤_, _<_}
-use native.Mathlib.Nat.{add-zero}
+use mathlib.Core.List.{List, flatMap}
+use Prim.Native.Nat.{ℕ, _*_, _<_}
 use native.Mathlib.Omega.{arith}
-use lib.Ieee.{Float, nan}
-use lib.ListN.{length, getD, take, drop}
-use lib.Seq.{drop-cons}
-use Rattle.lists.specs.Tab.{tabulate}
+use lib.Ieee.{Float}
+use lib.ListN.{length, getD, drop}
 use Rattle.lists.proofs.Tab.{length-tabulate, getD-tabulate}
 use Rattle.refusals.specs.Outcome.{Outcome, accepted, refused}
 use Rattle.refusals.specs.declared.Frame.{Frame}
+use Rattle.points.specs.Numbers.{quadSize, quadAt, cornersAt}
 use Rattle.tables.specs.declared.Family.{Family}
 use Rattle.reader.specs.Reading.{Tag, reading}
-use Rattle.listing.specs.Listing.{quadSize, rowSize, quadCount, badList, quadAt, numbersOf, rowOf, cornersOf, readings, Listing, listing, rowAt, cornersAt}
+use Rattle.listing.specs.Listing.{rowSize, quadCount, badList, rowOf, cornersOf, readings, Listing, listing, rowAt}
 use Rattle.listing.proofs.Flat.{length-in-front, length-flat, part-at, behind}
 use Rattle.listing.proofs.Room.{good-list}
 
@@ -25,27 +23,6 @@ row-size (refused n) = refl
 pub corners-size : (o : Outcome Tag) → length (cornersOf o) ≡ quadSize
 corners-size (accepted tag) = refl
 corners-size (refused n) = refl
-
--- numbers of a list, one by one
-numbers-at : (n at : ℕ) (l : List Float) → at + n ≤ length l → take n (drop at l) ≡ tabulate n (λ i. getD l (at + i) nan)
-unfolding tabulate
-numbers-at zero at l h = refl
-numbers-at (suc n) at l h =
-    ap (take (suc n)) (drop-cons l at nan (omega arith))
-    ∙ (λ j. getD l (sym (add-zero at) j) nan ∷ numbers-at n (suc at) l (omega arith) j)
-    ∙ (λ j. getD l (at + 0) nan ∷ tabulate n (λ i. getD l (next i j) nan))
-  where
-    next : (i : ℕ) → suc at + i ≡ at + suc i
-    next i = omega arith
-
--- quad q of a list is its eight numbers there
-pub quad-numbers : (quads : List Float) (q : ℕ) → quadSize * q + quadSize ≤ length quads → cornersAt quads q ≡ numbersOf (quadAt quads q)
-unfolding tabulate
-quad-numbers quads q h = numbers-at quadSize (quadSize * q) quads h ∙ (λ j. getD quads (add-zero (8 * q) j) nan ∷ getD quads (8 * q + 1) nan ∷ getD quads (8 * q + 2) nan ∷ getD quads (place 1 j) nan ∷ getD quads (8 * q + 4) nan ∷ getD quads (place 2 j) nan ∷ getD quads (8 * q + 6) nan ∷ getD quads (place 3 j) nan ∷ [])
-  where
-    -- the y of corner k
-    place : (k : ℕ) → 8 * q + (2 * k + 1) ≡ 8 * q + 2 * k + 1
-    place k = omega arith
 
 module _ (plane : List ℕ) (frame : Frame) (family : Family) (codes : List ℕ) (quads : List Float) where
   -- what quad q reads as

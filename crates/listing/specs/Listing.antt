@@ -8,15 +8,11 @@ use lib.ListN.{length, getD, take, drop, replicate}
 use Rattle.lists.specs.Tab.{tabulate}
 use Rattle.refusals.specs.Outcome.{Outcome, accepted, refused}
 use Rattle.refusals.specs.declared.Frame.{Frame}
-use Rattle.points.specs.declared.Point.{Point}
-use Rattle.points.specs.declared.Quad.{Quad}
+use Rattle.points.specs.Numbers.{quadSize, quadAt, numbersOf}
 use Rattle.tables.specs.declared.Family.{Family}
 use Rattle.reader.specs.Reading.{Tag, reading}
 
--- the numbers of a quad, the numbers of a row, and the most quads of a list
-abbrev pub quadSize : ℕ
-quadSize = 8
-
+-- the numbers of a row, and the most quads of a list
 abbrev pub rowSize : ℕ
 rowSize = 3
 
@@ -33,24 +29,6 @@ unfoldable pub badList : ℕ → ℕ → ℕ → Bool
 badList quads rows corners =
     not (eqb (quads % quadSize) 0) || (ltb mostQuads (quadCount quads)
     || (ltb rows (rowSize * quadCount quads) || ltb corners (quadSize * quadCount quads)))
-
--- the corner whose x is number k of a list, and its y the next
-abbrev pub pointAt : List Float → ℕ → Point
-pointAt numbers k = record { x = getD numbers k nan; y = getD numbers (k + 1) nan }
-
--- quad q of a list: x0 y0 x1 y1 x2 y2 x3 y3
-abbrev pub quadAt : List Float → ℕ → Quad
-quadAt quads q =
-    record {
-      q0 = pointAt quads (quadSize * q);
-      q1 = pointAt quads (quadSize * q + 2);
-      q2 = pointAt quads (quadSize * q + 4);
-      q3 = pointAt quads (quadSize * q + 6);
-    }
-
--- the numbers of a quad, in the same order
-abbrev pub numbersOf : Quad → List Float
-numbersOf q = q .q0 .x ∷ q .q0 .y ∷ q .q1 .x ∷ q .q1 .y ∷ q .q2 .x ∷ q .q2 .y ∷ q .q3 .x ∷ q .q3 .y ∷ []
 
 -- "a row: refusal or 0, id, turn", and "beside it eight corner numbers". "Rows of refused quads and their corner numbers are zero in
 -- every bit but for the number."
@@ -88,9 +66,10 @@ listing plane frame family codes quads rows corners =
     let read = readings plane frame family codes quads in
     listingOf (accepted (quadCount (length quads))) (inFront (flatMap rowOf read) rows) (inFront (flatMap cornersOf read) corners)
 
--- the row and the corner numbers of quad q in the outputs
+-- the row of quad q in the output
 abbrev pub rowAt : List ℕ → ℕ → List ℕ
 rowAt rows q = take rowSize (drop (rowSize * q) rows)
 
-abbrev pub cornersAt : List Float → ℕ → List Float
-cornersAt corners q = take quadSize (drop (quadSize * q) corners)
+-- all of a row but the turn, which is its third number
+abbrev pub butTurn : List ℕ → List ℕ
+butTurn row = take 2 row ++ drop 3 row

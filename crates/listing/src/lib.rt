@@ -1,5 +1,6 @@
 // List of quads to rows: each quad of a list is read by itself.
 use points::Point;
+use points::QUAD_SIZE;
 use points::Quad;
 use reader::Reading;
 use refusals::Frame;
@@ -10,20 +11,18 @@ use tag_families::codes::T25H9;
 use tag_families::codes::T36H11;
 ghost use mathlib.Core.Path.{_≡_};
 ghost use mathlib.Core.Bool.{false};
-ghost use mathlib.Core.List.{[], _∷_};
 ghost use Prim.Native.Nat.{_+_, _*_, _≤_, _<_};
 ghost use lib.ListN.{length};
 ghost use lib.Seq.{sets};
 ghost use Rattle.refusals.specs.Outcome.{accepted};
-ghost use Rattle.refusals.specs.Plane.{badFrame};
+ghost use Rattle.refusals.specs.Pixels.{badFrame};
 ghost use Rattle.tables.specs.Table.{badTable};
 ghost use Rattle.tag_families.specs.Families.{familyOf, codesOf};
 ghost use Rattle.reader.specs.Answer.{paperReading};
-ghost use Rattle.listing.specs.Listing.{quadSize, rowSize, badList, pointAt, quadAt, numbersOf, rowOf, cornersOf, listingOf, listing};
+ghost use Rattle.points.specs.Numbers.{quadSize};
+ghost use Rattle.listing.specs.Listing.{rowSize, badList, rowOf, cornersOf, listingOf, listing};
 
-// The numbers of a quad, the numbers of a row, and the most quads of a list.
-const QUAD_SIZE: usize = 8;
-
+// The numbers of a row, and the most quads of a list.
 const ROW_SIZE: usize = 3;
 
 const MOST_QUADS: usize = 1024;
@@ -43,30 +42,6 @@ pub fn bad_list(quads: usize, rows: usize, corners: usize) -> bool
         return true;
     }
     corners < QUAD_SIZE * count
-}
-
-// The corner at place `at` of a list.
-fn point_at(quads: &[f32], at: usize) -> Point
-    requires { ⌜ at + 2 ≤ length (now quads) ⌝ }
-    ensures { λ r. ⌜ r ≡ pointAt (now (quads .entry)) at ⌝ }
-{
-    Point {
-        x: quads[at],
-        y: quads[at + 1],
-    }
-}
-
-// Quad q of a list.
-pub fn quad_at(quads: &[f32], q: usize) -> Quad
-    requires { ⌜ quadSize * q + quadSize ≤ length (now quads) ⌝ }
-    ensures { λ r. ⌜ r ≡ quadAt (now (quads .entry)) q ⌝ }
-{
-    let at = QUAD_SIZE * q;
-    let q0 = point_at(quads, at);
-    let q1 = point_at(quads, at + 2);
-    let q2 = point_at(quads, at + 4);
-    let q3 = point_at(quads, at + 6);
-    Quad { q0, q1, q2, q3 }
 }
 
 // The row of a quad's reading.
@@ -93,27 +68,6 @@ fn put_row(rows: &mut [u64], q: usize, reading: Reading)
     }
 }
 
-// A corner's two numbers.
-fn put_point(corners: &mut [f32], at: usize, p: Point)
-    requires { ⌜ at + 2 ≤ length (now corners) ⌝ }
-    ensures { λ _. ⌜ now (corners .exit) ≡ sets (now (corners .entry)) at (p .x ∷ p .y ∷ []) ⌝ }
-{
-    corners[at] = p.x;
-    corners[at + 1] = p.y;
-}
-
-// A quad's eight numbers.
-pub fn put_quad(corners: &mut [f32], q: usize, quad: Quad)
-    requires { ⌜ quadSize * q + quadSize ≤ length (now corners) ⌝ }
-    ensures { λ _. ⌜ now (corners .exit) ≡ sets (now (corners .entry)) (quadSize * q) (numbersOf quad) ⌝ }
-{
-    let at = QUAD_SIZE * q;
-    put_point(corners, at, quad.q0);
-    put_point(corners, at + 2, quad.q1);
-    put_point(corners, at + 4, quad.q2);
-    put_point(corners, at + 6, quad.q3);
-}
-
 // The corner numbers of a quad's reading.
 fn put_corners(corners: &mut [f32], q: usize, reading: Reading)
     requires { ⌜ quadSize * q + quadSize ≤ length (now corners) ⌝ }
@@ -124,7 +78,7 @@ fn put_corners(corners: &mut [f32], q: usize, reading: Reading)
             id: _,
             turn: _,
             corners: quad,
-        } => put_quad(corners, q, quad),
+        } => points::put_quad(corners, q, quad),
         Reading::Refused(_) => {
             let zero = Point { x: 0.0, y: 0.0 };
             let none = Quad {
@@ -133,7 +87,7 @@ fn put_corners(corners: &mut [f32], q: usize, reading: Reading)
                 q2: zero,
                 q3: zero,
             };
-            put_quad(corners, q, none);
+            points::put_quad(corners, q, none);
         }
     }
 }
@@ -154,7 +108,7 @@ pub fn try_decode_quads(
     let count = quads.len() / QUAD_SIZE;
     let mut q = 0;
     while q < count {
-        let quad = quad_at(quads, q);
+        let quad = points::quad_at(quads, q);
         let reading = reader::try_decode_quad(plane, frame, family, codes, quad);
         put_row(rows, q, reading);
         put_corners(corners, q, reading);

@@ -9,7 +9,7 @@ use borrow.Author.Tests.{ltb-true}
 use lib.Ieee.{Float}
 use lib.ListN.{length}
 use Rattle.refusals.specs.Outcome.{accepted, refused}
-use Rattle.refusals.specs.Plane.{badFrame}
+use Rattle.refusals.specs.Pixels.{badFrame}
 use Rattle.refusals.specs.declared.Frame.{Frame}
 use Rattle.tables.specs.Table.{badTable}
 use Rattle.tables.specs.declared.Family.{Family}

@@ -4,7 +4,7 @@ use mathlib.Core.Bool.{not, _||_, cond}
 use mathlib.Core.List.{List}
 use lib.ListN.{length}
 use Rattle.refusals.specs.Outcome.{Outcome, accepted, refused}
-use Rattle.refusals.specs.Plane.{badFrame, badPlane}
+use Rattle.refusals.specs.Pixels.{badFrame}
 use Rattle.refusals.specs.declared.Frame.{Frame}
 use Rattle.points.specs.declared.Quad.{Quad}
 use Rattle.tables.specs.Table.{badEdge, badBorder}
@@ -32,7 +32,7 @@ abbrev pub unpainted : List ℕ → ℕ → Painting
 unpainted plane n = record { answer = refused n; plane = plane }
 
 unfoldable pub paintTag : List ℕ → Frame → (edge border word : ℕ) → Print → Painting
-unfolding badPlane badPrint repainted
+unfolding badFrame badPrint repainted
 paintTag plane frame edge border word print =
     cond (badFrame (length plane) frame) (unpainted plane 1)
     (cond (badEdge edge || badBorder border) (unpainted plane 6)
@@ -41,7 +41,7 @@ paintTag plane frame edge border word print =
 
 -- the same by the number of a family, with its edge and border: "6 also for a family number that there is none of"
 unfoldable pub paintTagIn : List ℕ → Frame → (family word : ℕ) → Print → Painting
-unfolding badPlane paintTag
+unfolding badFrame paintTag
 paintTagIn plane frame family word print =
     cond (badFrame (length plane) frame) (unpainted plane 1)
     (cond (not (isFamily family)) (unpainted plane 6)

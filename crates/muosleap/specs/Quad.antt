@@ -4,7 +4,7 @@ use mathlib.Core.Bool.{cond, not}
 use mathlib.Core.List.{List}
 use lib.ListN.{length}
 use Rattle.refusals.specs.Outcome.{Outcome, refused}
-use Rattle.refusals.specs.Plane.{badFrame, badPlane}
+use Rattle.refusals.specs.Pixels.{badFrame}
 use Rattle.refusals.specs.declared.Frame.{Frame}
 use Rattle.points.specs.declared.Quad.{Quad}
 use Rattle.tables.specs.Table.{badTable}
@@ -14,7 +14,7 @@ use Rattle.reader.specs.Reading.{Tag, reading}
 
 -- with a lent table
 unfoldable pub decodeQuad : List ℕ → Frame → Family → List ℕ → Quad → Outcome Tag
-unfolding badPlane badTable reading
+unfolding badFrame badTable reading
 decodeQuad plane frame family codes quad =
     cond (badFrame (length plane) frame) (refused 1)
     (cond (badTable family codes) (refused 6)
@@ -22,7 +22,7 @@ decodeQuad plane frame family codes quad =
 
 -- by family number
 unfoldable pub decodeQuadIn : List ℕ → Frame → ℕ → Quad → Outcome Tag
-unfolding badPlane reading
+unfolding badFrame reading
 decodeQuadIn plane frame number quad =
     cond (badFrame (length plane) frame) (refused 1)
     (cond (not (isFamily number)) (refused 6)

@@ -6,7 +6,7 @@ use mathlib.Core.List.{List}
 use lib.Ieee.{Float}
 use lib.ListN.{length}
 use Rattle.refusals.specs.Outcome.{Outcome, accepted, refused}
-use Rattle.refusals.specs.Plane.{badFrame, badPlane}
+use Rattle.refusals.specs.Pixels.{badFrame}
 use Rattle.refusals.specs.declared.Frame.{Frame}
 use Rattle.tables.specs.Table.{badTable}
 use Rattle.tables.specs.declared.Family.{Family}
@@ -22,7 +22,7 @@ paperListed (Refused n) = refused n
 
 -- with a lent table
 unfoldable pub decodeQuads : List ℕ → Frame → Family → List ℕ → List Float → List ℕ → List Float → Listing
-unfolding badPlane badTable badList listing
+unfolding badFrame badTable badList listing
 decodeQuads plane frame family codes quads rows corners =
     cond (badFrame (length plane) frame) (listingOf (refused 1) rows corners)
     (cond (badTable family codes) (listingOf (refused 6) rows corners)
@@ -31,7 +31,7 @@ decodeQuads plane frame family codes quads rows corners =
 
 -- by family number
 unfoldable pub decodeQuadsIn : List ℕ → Frame → ℕ → List Float → List ℕ → List Float → Listing
-unfolding badPlane badList listing
+unfolding badFrame badList listing
 decodeQuadsIn plane frame number quads rows corners =
     cond (badFrame (length plane) frame) (listingOf (refused 1) rows corners)
     (cond (not (isFamily number)) (listingOf (refused 6) rows corners)

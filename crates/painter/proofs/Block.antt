@@ -2,16 +2,14 @@
 use mathlib.Core.Path.{_≡_, refl, sym, ap, ap₂, _∙_}
 use mathlib.Core.Bool.{Bool, true, false, _&&_, _||_, cond, true≢false, and-or-distrib-left, and-or-distrib-right, and-false}
 use mathlib.Core.List.{List}
-use Prim.Native.Nat.{ℕ, _+_, _-_, _*_, _/_, _%_, _<_, _≤_}
-use native.Mathlib.Nat.{div-add-mod', mul-le-mul-right, mul-comm}
+use Prim.Native.Nat.{ℕ, _+_, _-_, _<_, _≤_}
 use native.Mathlib.Omega.{arith}
 use lib.ListN.{length, getD}
 use Rattle.lists.proofs.All.{and-left, and-right}
-use Rattle.lists.proofs.Grid.{row-of, column-of, next-row}
-use Rattle.refusals.specs.Plane.{badFrame}
+use Rattle.refusals.specs.Pixels.{badFrame, placeOf, columnOf, rowOf}
 use Rattle.refusals.specs.declared.Frame.{Frame}
-use Rattle.refusals.proofs.Plane.{good-plane}
-use Rattle.painter.specs.Picture.{placeOf, repainted, between, runFilled, inBlock, blockPixel, filled}
+use Rattle.refusals.proofs.Pixels.{place-column, place-row, byte-place, place-beside, good-frame}
+use Rattle.painter.specs.Picture.{repainted, between, runFilled, inBlock, blockPixel, filled}
 use Rattle.painter.proofs.Runs.{Within, is-within, within, between-none, between-more, length-run, byte-run}
 use Rattle.painter.proofs.Picture.{is-repainted, repainted-none, repainted-twice, repainted-same}
 
@@ -61,33 +59,35 @@ no-columns x0 y0 high x y = ap (λ (t : Bool). t && between y0 high y) (between-
 
 -- ---- a run of bytes within a row is a block of one row
 
-module _ (w x y n k : ℕ) (W : 0 < w) (fits : x + n ≤ w) where
-  run-to-block : Within (y * w + x) n k → In x y n 1 (k % w) (k / w)
+module _ (frame : Frame) (x y n k : ℕ) (fits : x + n ≤ frame .width) where
+  run-to-block : Within (placeOf frame x y) n k → In x y n 1 (columnOf frame k) (rowOf frame k)
   run-to-block i =
-      let c = k - y * w in
-      let e : k ≡ y * w + c = omega arith in
-      let col : c < w = omega arith in
-      let column : k % w ≡ c = ap (λ (n : ℕ). n % w) e ∙ column-of w y c col in
-      let row : k / w ≡ y = ap (λ (n : ℕ). n / w) e ∙ row-of w y c col in
-      record { across = record { from = omega arith; to = omega arith }; down = record { from = omega arith; to = omega arith } }
+      let d = k - placeOf frame x y in
+      let wide : x + d < frame .width = omega (arith, i .from, i .to) in
+      let e : placeOf frame (x + d) y ≡ k = place-beside frame x y d ∙ omega (arith, i .from) in
+      let column : columnOf frame k ≡ x + d = ap (columnOf frame) (sym e) ∙ place-column frame (x + d) y wide in
+      let row : rowOf frame k ≡ y = ap (rowOf frame) (sym e) ∙ place-row frame (x + d) y wide in
+      record { across = record { from = omega arith; to = omega (arith, i .from, i .to) }; down = record { from = omega arith; to = omega arith } }
 
-  block-to-run : In x y n 1 (k % w) (k / w) → Within (y * w + x) n k
+  block-to-run : In x y n 1 (columnOf frame k) (rowOf frame k) → Within (placeOf frame x y) n k
   block-to-run i =
-      let row : k / w ≡ y = omega (arith, i .down .from, i .down .to) in
-      let e : y * w + k % w ≡ k = ap (λ (r : ℕ). r * w + k % w) (sym row) ∙ div-add-mod' k w in
-      record { from = omega (arith, i .across .from); to = omega (arith, i .across .to) }
+      let row : rowOf frame k ≡ y = omega (arith, i .down .from, i .down .to) in
+      let d = columnOf frame k - x in
+      let column : columnOf frame k ≡ x + d = omega (arith, i .across .from) in
+      let e : placeOf frame x y + d ≡ k = sym (place-beside frame x y d) ∙ (λ j. placeOf frame (sym column j) (sym row j)) ∙ byte-place frame k in
+      record { from = omega arith; to = omega (arith, i .across .to) }
 
-  run-block : between (y * w + x) n k ≡ inBlock x y n 1 (k % w) (k / w)
+  run-block : between (placeOf frame x y) n k ≡ inBlock x y n 1 (columnOf frame k) (rowOf frame k)
   run-block =
-      same (between (y * w + x) n k) (inBlock x y n 1 (k % w) (k / w))
-      (λ e. let i = run-to-block (is-within (y * w + x) n k e) in block-in x y n 1 (k % w) (k / w) (i .across .from) (i .across .to) (i .down .from) (i .down .to))
-      (λ e. let i = block-to-run (is-in x y n 1 (k % w) (k / w) e) in within (y * w + x) n k (i .from) (i .to))
+      same (between (placeOf frame x y) n k) (inBlock x y n 1 (columnOf frame k) (rowOf frame k))
+      (λ e. let i = run-to-block (is-within (placeOf frame x y) n k e) in block-in x y n 1 (columnOf frame k) (rowOf frame k) (i .across .from) (i .across .to) (i .down .from) (i .down .to))
+      (λ e. let i = block-to-run (is-in x y n 1 (columnOf frame k) (rowOf frame k) e) in within (placeOf frame x y) n k (i .from) (i .to))
 
-run-painted : (frame : Frame) (x y n shade : ℕ) (plane : List ℕ) → 0 < frame .width → x + n ≤ frame .width
+run-painted : (frame : Frame) (x y n shade : ℕ) (plane : List ℕ) → x + n ≤ frame .width
     → runFilled (placeOf frame x y) n shade plane ≡ repainted frame (blockPixel x y n 1 shade) plane
-run-painted frame x y n shade plane W fits =
+run-painted frame x y n shade plane fits =
     is-repainted frame (blockPixel x y n 1 shade) plane (runFilled (placeOf frame x y) n shade plane) (length-run (placeOf frame x y) shade plane n)
-    (λ k b. byte-run (placeOf frame x y) shade plane n k b ∙ ap (λ (t : Bool). cond t shade (getD plane k 0)) (run-block (frame .width) x y n k W fits))
+    (λ k b. byte-run (placeOf frame x y) shade plane n k b ∙ ap (λ (t : Bool). cond t shade (getD plane k 0)) (run-block frame x y n k fits))
 
 -- ---- the loop that paints a block row by row
 
@@ -96,21 +96,14 @@ module _ (frame : Frame) (x y wide shade : ℕ) (plane : List ℕ) where
   block-none =
       repainted-none frame (blockPixel x y wide 0 shade) plane (λ px py old. ap (λ (t : Bool). cond t shade old) (no-rows x y wide px py))
 
-  pub block-more : (n : ℕ) (out next : List ℕ) → 0 < frame .width → x + wide ≤ frame .width → out ≡ repainted frame (blockPixel x y wide n shade) plane
+  pub block-more : (n : ℕ) (out next : List ℕ) → x + wide ≤ frame .width → out ≡ repainted frame (blockPixel x y wide n shade) plane
       → next ≡ runFilled (placeOf frame x (y + n)) wide shade out → next ≡ repainted frame (blockPixel x y wide (n + 1) shade) plane
-  block-more n out next W fits e r =
-      r ∙ run-painted frame x (y + n) wide shade out W fits
+  block-more n out next fits e r =
+      r ∙ run-painted frame x (y + n) wide shade out fits
       ∙ ap (repainted frame (blockPixel x (y + n) wide 1 shade)) e
       ∙ repainted-twice frame (blockPixel x y wide n shade) (blockPixel x (y + n) wide 1 shade) (blockPixel x y wide (n + 1) shade) plane (λ px py old.
       overlay (inBlock x y wide n px py) (inBlock x (y + n) wide 1 px py) shade shade old (λ t. refl)
       ∙ ap (λ (t : Bool). cond t shade old) (sym (more-rows x y wide n 1 px py)))
-
--- such a row lies in the plane
-pub row-inside : (frame : Frame) (len x y wide : ℕ) → badFrame len frame ≡ false → x + wide ≤ frame .width → y < frame .height → placeOf frame x y + wide ≤ len
-row-inside frame len x y wide good fits h =
-    let p = good-plane good in
-    let l : y + 1 ≤ frame .height = omega arith in
-    omega (arith, p .whole, mul-le-mul-right (frame .width) l, next-row (frame .width) y, mul-comm (frame .width) (frame .height))
 
 -- the block of all rows and columns has every pixel
 pub whole-block : (frame : Frame) (light : ℕ) (plane next : List ℕ) → badFrame (length plane) frame ≡ false
@@ -118,6 +111,5 @@ pub whole-block : (frame : Frame) (light : ℕ) (plane next : List ℕ) → badF
 whole-block frame light plane next good e =
     let w = frame .width in
     let h = frame .height in
-    let p = good-plane good in
-    e ∙ repainted-same frame (blockPixel 0 0 w h light) (λ x y old. light) plane (p .sides .wide) (p .whole) (λ x y old hx hy.
+    e ∙ repainted-same frame (blockPixel 0 0 w h light) (λ x y old. light) plane (good-frame good) (λ x y old hx hy.
     ap (λ (t : Bool). cond t light old) (block-in 0 0 w h x y (omega arith) (omega arith) (omega arith) (omega arith)))

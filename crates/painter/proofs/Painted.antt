@@ -6,7 +6,8 @@ use Prim.Native.Nat.{ℕ, _+_, _*_, _/_, _<_}
 use native.Mathlib.Omega.{arith}
 use lib.ListN.{length, getD}
 use Rattle.refusals.specs.declared.Frame.{Frame}
-use Rattle.painter.specs.Picture.{placeOf, inBlock, filled}
+use Rattle.refusals.specs.Pixels.{placeOf}
+use Rattle.painter.specs.Picture.{inBlock, filled}
 use Rattle.painter.specs.Tag.{sideOf, cellAt, shadeOf, cellOf, sizeOf, tagPixel, drawn, paintedPixel, painted}
 use Rattle.painter.specs.Printable.{Printable}
 use Rattle.painter.specs.declared.Print.{Print}
@@ -47,7 +48,7 @@ module _ (edge border word : ℕ) (print : Print) (u v d d′ : ℕ) (hu : u < s
       let g = good-print p in
       let x = print .x + u * print .cell + d in
       let y = print .y + v * print .cell + d′ in
-      pixel-repainted frame (λ x y old. paintedPixel edge border word print x y) plane x y 0 (g .plane .whole)
+      pixel-repainted frame (λ x y old. paintedPixel edge border word print x y) plane x y 0 (g .framed)
       (omega (arith, cell-inside p u hu .across)) (omega (arith, cell-inside p v hv .down))
       ∙ cell-pixel (print .light)
 
@@ -66,5 +67,5 @@ pub painted-outside : (edge border word : ℕ) (print : Print) (frame : Frame) (
     → x < frame .width → y < frame .height → inBlock (print .x) (print .y) (sizeOf edge border print) (sizeOf edge border print) x y ≡ false
     → getD (painted frame edge border word print plane) (placeOf frame x y) 0 ≡ print .light
 painted-outside edge border word print frame plane x y p hx hy e =
-    pixel-repainted frame (λ x y old. paintedPixel edge border word print x y) plane x y 0 (good-print p .plane .whole) hx hy
+    pixel-repainted frame (λ x y old. paintedPixel edge border word print x y) plane x y 0 (good-print p .framed) hx hy
     ∙ ap (λ (t : Bool). cond t (shadeOf edge border word print (cellOf print x y)) (print .light)) e

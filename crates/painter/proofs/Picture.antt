@@ -1,14 +1,13 @@
 -- A plane that was painted pixel by pixel: its length, its pixels, and one painting after another. Assumes nothing.
 use mathlib.Core.Path.{_≡_, refl, sym, ap, ap₂, _∙_}
 use mathlib.Core.List.{List}
-use Prim.Native.Nat.{ℕ, _*_, _<_}
-use native.Mathlib.Nat.{div-lt-iff-lt-mul, mod-lt, mul-comm}
-use native.Mathlib.Omega.{arith}
+use Prim.Native.Nat.{ℕ, _<_}
 use lib.ListN.{length, getD}
 use Rattle.lists.proofs.Tab.{length-tabulate, getD-tabulate}
-use Rattle.lists.proofs.Grid.{row-of, column-of, inside}
 use Rattle.refusals.specs.declared.Frame.{Frame}
-use Rattle.painter.specs.Picture.{columnOf, rowOf, placeOf, repainted}
+use Rattle.refusals.specs.Pixels.{placeOf, columnOf, rowOf}
+use Rattle.refusals.proofs.Pixels.{place-column, place-row, Framed, pixel-inside}
+use Rattle.painter.specs.Picture.{repainted}
 use Rattle.painter.proofs.Runs.{tabulated}
 
 module _ (frame : Frame) where
@@ -43,17 +42,17 @@ module _ (frame : Frame) where
       ∙ e (columnOf frame k) (rowOf frame k) (getD plane k 0))
 
   -- two paintings that agree on every pixel of the plane
-  pub repainted-same : (f g : ℕ → ℕ → ℕ → ℕ) (plane : List ℕ) → 0 < frame .width → length plane ≡ frame .width * frame .height
+  pub repainted-same : (f g : ℕ → ℕ → ℕ → ℕ) (plane : List ℕ) → Framed (length plane) frame
       → ((x y old : ℕ) → x < frame .width → y < frame .height → f x y old ≡ g x y old) → repainted frame f plane ≡ repainted frame g plane
-  repainted-same f g plane W l e =
+  repainted-same f g plane framed e =
       is-repainted g plane (repainted frame f plane) (length-repainted f plane)
       (λ k b.
       byte-repainted f plane k 0 b
-      ∙ e (columnOf frame k) (rowOf frame k) (getD plane k 0) (mod-lt k W) (div-lt-iff-lt-mul W .1 (omega (arith, mul-comm (frame .width) (frame .height)))))
+      ∙ e (columnOf frame k) (rowOf frame k) (getD plane k 0) (framed .column-lt k b) (framed .row-lt k b))
 
   -- pixel (x, y) of a painted plane
-  pub pixel-repainted : (f : ℕ → ℕ → ℕ → ℕ) (plane : List ℕ) (x y d : ℕ) → length plane ≡ frame .width * frame .height → x < frame .width → y < frame .height
+  pub pixel-repainted : (f : ℕ → ℕ → ℕ → ℕ) (plane : List ℕ) (x y d : ℕ) → Framed (length plane) frame → x < frame .width → y < frame .height
       → getD (repainted frame f plane) (placeOf frame x y) d ≡ f x y (getD plane (placeOf frame x y) 0)
-  pixel-repainted f plane x y d l hx hy =
-      byte-repainted f plane (placeOf frame x y) d (omega (arith, inside (frame .width) y x hx (frame .height) hy))
-      ∙ ap₂ (λ (a b : ℕ). f a b (getD plane (placeOf frame x y) 0)) (column-of (frame .width) y x hx) (row-of (frame .width) y x hx)
+  pixel-repainted f plane x y d framed hx hy =
+      byte-repainted f plane (placeOf frame x y) d (pixel-inside framed x y hx hy)
+      ∙ ap₂ (λ (a b : ℕ). f a b (getD plane (placeOf frame x y) 0)) (place-column frame x y hx) (place-row frame x y hx)

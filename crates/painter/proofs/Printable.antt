@@ -9,7 +9,7 @@ use lib.Dec.{ltb}
 use Rattle.lists.proofs.All.{or-left, or-right}
 use Rattle.lists.proofs.Grid.{next-row}
 use Rattle.refusals.specs.declared.Frame.{Frame}
-use Rattle.refusals.proofs.Plane.{Plane, good-plane}
+use Rattle.refusals.proofs.Pixels.{Framed, good-frame}
 use Rattle.tables.specs.Table.{outside, inSquare}
 use Rattle.tables.proofs.Table.{Within, good-edge, good-border}
 use Rattle.painter.specs.Tag.{sideOf, sizeOf}
@@ -51,7 +51,7 @@ good-place frame edge border print e =
     record { right = omega arith; low = omega arith }
 
 pub record Good (len : ℕ) (frame : Frame) (edge border word : ℕ) (print : Print) : Type 0 where
-  pub plane : Plane len (frame .width) (frame .height)
+  pub framed : Framed len frame
   pub edges : Within 1 8 edge
   pub borders : Within 1 4 border
   pub words : word < 2 ^ (edge * edge)
@@ -66,7 +66,7 @@ good-print {len} {frame} {edge} {border} {word} {print} p =
     let q = badPlace frame edge border print in
     let r = or-right w (s || q) (p .prints) in
     record {
-      plane = good-plane (p .planes);
+      framed = good-frame (p .planes);
       edges = good-edge edge (p .edges);
       borders = good-border border (p .borders);
       words = ltb-true word (2 ^ (edge * edge)) (not-false (inSquare edge word) (or-left w (s || q) (p .prints)));
@@ -97,6 +97,6 @@ cell-inside {len} {frame} {edge} {border} {word} {print} p n h =
     record {
       across = omega (arith, g .placed .right);
       down = omega (arith, g .placed .low);
-      width-le = g .plane .sides .width-le;
-      height-le = g .plane .sides .height-le;
+      width-le = g .framed .sides .width-le;
+      height-le = g .framed .sides .height-le;
     }

@@ -1,10 +1,11 @@
--- An 8-bit plane as a picture: pixel (x, y) stands in column x and row y, each counted from 0; y grows downward. Assumes nothing.
-use Prim.Native.Nat.{ℕ, _+_, _*_, _/_, _%_}
+-- An 8-bit plane as a picture that is painted. Assumes nothing.
+use Prim.Native.Nat.{ℕ, _+_}
 use mathlib.Core.Bool.{Bool, _&&_, cond}
 use mathlib.Core.List.{List}
 use lib.Dec.{ltb, leb}
 use lib.ListN.{length, getD}
 use Rattle.lists.specs.Tab.{tabulate}
+use Rattle.refusals.specs.Pixels.{columnOf, rowOf}
 use Rattle.refusals.specs.declared.Frame.{Frame}
 
 -- x is one of the n numbers from x0 on
@@ -14,17 +15,6 @@ between x0 n x = leb x0 x && ltb x (x0 + n)
 -- the bytes after the n of them from `start` on have got one shade
 abbrev pub runFilled : (start n shade : ℕ) → List ℕ → List ℕ
 runFilled start n shade bytes = tabulate (length bytes) (λ k. cond (between start n k) shade (getD bytes k 0))
-
--- byte k of a plane is the pixel in this column and this row
-abbrev pub columnOf : Frame → ℕ → ℕ
-columnOf frame k = k % frame .width
-
-abbrev pub rowOf : Frame → ℕ → ℕ
-rowOf frame k = k / frame .width
-
--- pixel (x, y) is this byte of the plane
-abbrev pub placeOf : Frame → ℕ → ℕ → ℕ
-placeOf frame x y = y * frame .width + x
 
 -- the plane after each pixel (x, y) has become `pixel x y old`, where it was `old`
 unfoldable pub repainted : Frame → (ℕ → ℕ → ℕ → ℕ) → List ℕ → List ℕ

@@ -4,7 +4,7 @@ use Prim.Native.Nat.{ℕ, _+_}
 use mathlib.Core.Path.{_≡_}
 use mathlib.Core.Bool.{Bool, false, not, _||_}
 use lib.Dec.{ltb}
-use Rattle.refusals.specs.Plane.{badFrame}
+use Rattle.refusals.specs.Pixels.{badFrame}
 use Rattle.refusals.specs.declared.Frame.{Frame}
 use Rattle.tables.specs.Table.{outside, inSquare, badEdge, badBorder}
 use Rattle.painter.specs.Tag.{sizeOf}

@@ -6,7 +6,7 @@ ghost use mathlib.Core.Path.{_≡_};
 ghost use mathlib.Core.Bool.{false};
 ghost use Prim.Native.Nat.{_+_, _*_, _<_, _≤_};
 ghost use lib.ListN.{length};
-ghost use Rattle.refusals.specs.Plane.{badFrame};
+ghost use Rattle.refusals.specs.Pixels.{badFrame};
 ghost use Rattle.tables.specs.Table.{badEdge, badBorder};
 ghost use Rattle.painter.specs.Picture.{runFilled, repainted, blockPixel, filled};
 ghost use Rattle.painter.specs.Tag.{sideOf, cellAt, turnedCell, isLight, shadeOf, sizeOf, drawn};
@@ -72,7 +72,7 @@ fn fill_block(
 {
     let mut i = 0;
     while i < high {
-        fill_run(plane, (y + i) * frame.width + x, wide, shade);
+        fill_run(plane, refusals::place_of(frame, x, y + i), wide, shade);
         i += 1;
     }
 }

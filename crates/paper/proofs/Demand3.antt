@@ -10,7 +10,7 @@ use lib.Ieee.{Float}
 use lib.ListN.{length, getD, take}
 use Rattle.lists.proofs.All.{or-left, or-right}
 use Rattle.refusals.specs.Outcome.{Outcome, accepted, refused, Done}
-use Rattle.refusals.specs.Plane.{badFrame}
+use Rattle.refusals.specs.Pixels.{badFrame}
 use Rattle.refusals.specs.declared.Frame.{Frame}
 use Rattle.points.specs.declared.Quad.{Quad}
 use Rattle.points.specs.Turned.{turnedLeft, answerCorners}

@@ -1,2 +1,3 @@
 pub mod Turns
 pub mod Any
+pub mod Numbers

@@ -1,11 +1,11 @@
 -- A reading depends only on the corners and on the samples taken: two pictures of one shape that agree there read alike. Assumes nothing.
-use mathlib.Core.Path.{_≡_, refl, ap, ap₂}
+use mathlib.Core.Path.{_≡_, ap}
 use mathlib.Core.Bool.{cond, not}
-use mathlib.Core.List.{List, _∷_}
-use Prim.Native.Nat.{ℕ, zero, suc, _<_, suc-le-suc}
-use native.Mathlib.Nat.{zero-lt-suc}
-use Rattle.lists.specs.Tab.{tabulate}
+use mathlib.Core.List.{List}
+use Prim.Native.Nat.{ℕ, _<_}
+use Rattle.lists.proofs.Rows.{tabulate-ext}
 use Rattle.refusals.specs.Outcome.{refused}
+use Rattle.refusals.specs.Pixels.{levelAt}
 use Rattle.refusals.specs.declared.Frame.{Frame}
 use Rattle.points.specs.declared.Quad.{Quad}
 use Rattle.tables.specs.declared.Family.{Family}
@@ -13,12 +13,7 @@ use Rattle.places.specs.declared.Axes.{Axes}
 use Rattle.places.specs.Corners.{badCorners, cornersOutside}
 use Rattle.places.specs.Place.{axesOf}
 use Rattle.levels.specs.Levels.{codeOf}
-use Rattle.reader.specs.Reading.{samples, column, row, levelAt, samplesInside, levelsOf, tagOf, reading}
-
-pub tabulate-ext : {A : Type 0} (n : ℕ) (f g : ℕ → A) → ((k : ℕ) → k < n → f k ≡ g k) → tabulate n f ≡ tabulate n g
-unfolding tabulate
-tabulate-ext zero f g h = refl
-tabulate-ext (suc n) f g h = ap₂ _∷_ (h 0 (zero-lt-suc n)) (tabulate-ext n (λ i. f (suc i)) (λ i. g (suc i)) (λ k l. h (suc k) (suc-le-suc l)))
+use Rattle.reader.specs.Reading.{samples, column, row, samplesInside, levelsOf, tagOf, reading}
 
 -- two pictures agree at the samples of a quad
 pub Agree : List ℕ → List ℕ → Frame → Family → Axes → Type 0

@@ -6,9 +6,8 @@ use Prim.Native.Nat.{ℕ, _*_}
 use lib.ListN.{length}
 use native.Mathlib.Omega.{arith}
 use Rattle.refusals.specs.Outcome.{Outcome, accepted, refused}
-use Rattle.refusals.specs.Plane.{badFrame}
+use Rattle.refusals.specs.Pixels.{badFrame}
 use Rattle.refusals.specs.declared.Frame.{Frame}
-use Rattle.refusals.proofs.Plane.{good-plane}
 use Rattle.points.specs.declared.Quad.{Quad}
 use Rattle.tables.specs.Table.{badTable}
 use Rattle.tables.specs.declared.Family.{Family}
@@ -45,12 +44,9 @@ module _ (plane : List ℕ) (frame : Frame) (family : Family) (codes : List ℕ)
 -- a plane and a table that refusals 1 and 6 let through
 pub readable : (plane : List ℕ) (frame : Frame) (family : Family) (codes : List ℕ) → badFrame (length plane) frame ≡ false → badTable family codes ≡ false → Readable plane frame family
 readable plane frame family codes p t =
-    let g = good-plane p in
     let f = good-table family codes t in
     record {
-      whole = g .whole;
-      width-le = g .sides .width-le;
-      height-le = g .sides .height-le;
+      framed = p;
       edge-pos = f .coded .edges .least;
       edge-le = f .coded .edges .most;
       border-le = f .borders .most;

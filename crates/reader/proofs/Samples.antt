@@ -16,12 +16,13 @@ use Rattle.lists.proofs.Tab.{written-none, written-more}
 use Rattle.lists.proofs.Each.{each-none, each-more, each-fails}
 use Rattle.lists.proofs.Grid.{row-of, column-of}
 use Rattle.word.proofs.Turn.{place-lt}
+use Rattle.refusals.specs.Pixels.{levelAt}
 use Rattle.refusals.specs.declared.Frame.{Frame}
 use Rattle.tables.specs.declared.Family.{Family}
 use Rattle.places.specs.declared.Axis.{Axis}
 use Rattle.places.specs.declared.Axes.{Axes}
 use Rattle.places.specs.Place.{sideOf, modulePixel, samplePixel}
-use Rattle.reader.specs.Reading.{samples, column, row, levelAt, sampleInside, samplesInside, levelsOf}
+use Rattle.reader.specs.Reading.{samples, column, row, sampleInside, samplesInside, levelsOf}
 use Rattle.reader.specs.Sampling.{sampleOf, Sampled}
 use Rattle.reader.specs.declared.Sample.{Sample}
 use Rattle.reader.specs.declared.Sample.the-variants.{Level, Outside}
@@ -46,7 +47,7 @@ module _ (plane : List ℕ) (frame : Frame) (family : Family) (axes : Axes) (k x
   unfolding sampleOf
   outside-y h = sym (ap picked (sym inside-is ∙ ap (λ (t : Bool). ltb x (frame .width) && t) (le-ltb y (frame .height) h) ∙ and-false (ltb x (frame .width))))
 
-  pub within : x < frame .width → y < frame .height → Level (getD plane (y * frame .width + x) 0) ≡ sampleOf plane frame family axes k
+  pub within : x < frame .width → y < frame .height → Level (levelAt plane frame x y) ≡ sampleOf plane frame family axes k
   unfolding sampleOf
   within hx hy =
       ap₂ (λ (a b : ℕ). Level (levelAt plane frame a b)) ex ey

@@ -5,11 +5,13 @@ use mathlib.Core.List.{List}
 use Prim.Native.Nat.{ℕ, zero, suc, _*_, _<_}
 use lib.Dec.{ltb}
 use lib.ListN.{length, getD}
+use Rattle.lists.proofs.Rows.{tabulate-ext}
 use Rattle.lists.specs.Tab.{tabulate}
 use Rattle.lists.specs.Each.{each}
 use Rattle.lists.proofs.Tab.{length-tabulate, getD-tabulate}
 use Rattle.lists.proofs.Each.{same-test, each-at, each-of}
 use Rattle.refusals.specs.Outcome.{Outcome, accepted, refused}
+use Rattle.refusals.specs.Pixels.{levelAt}
 use Rattle.refusals.specs.declared.Frame.{Frame}
 use Rattle.points.specs.declared.Quad.{Quad}
 use Rattle.points.specs.Turned.{turnedOnce, turnedLeft}
@@ -22,8 +24,7 @@ use Rattle.levels.specs.Levels.{codeOf}
 use Rattle.levels.proofs.Cases.{onAccepted}
 use Rattle.levels.proofs.Order.{reordered}
 use Rattle.levels.proofs.Quarter.{turned-code}
-use Rattle.reader.specs.Reading.{samples, column, row, levelAt, sampleInside, samplesInside, levelsOf}
-use Rattle.reader.proofs.Depends.{tabulate-ext}
+use Rattle.reader.specs.Reading.{samples, column, row, sampleInside, samplesInside, levelsOf}
 
 module _ (family : Family) (q : Quad) where
   -- sample k of the next start is the sample that one turn of the square puts at k

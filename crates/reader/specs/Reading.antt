@@ -1,12 +1,12 @@
 -- A reading of one quad, from 01's "Quad to tag". Assumes nothing.
-use Prim.Native.Nat.{ℕ, _+_, _*_}
+use Prim.Native.Nat.{ℕ, _*_}
 use mathlib.Core.Bool.{Bool, not, _&&_, cond}
 use mathlib.Core.List.{List}
 use lib.Dec.{ltb}
-use lib.ListN.{getD}
 use Rattle.lists.specs.Tab.{tabulate}
 use Rattle.lists.specs.Each.{each}
 use Rattle.refusals.specs.Outcome.{Outcome, accepted, refused}
+use Rattle.refusals.specs.Pixels.{levelAt}
 use Rattle.refusals.specs.declared.Frame.{Frame}
 use Rattle.points.specs.declared.Quad.{Quad}
 use Rattle.points.specs.Turned.{turnedLeft, answerCorners}
@@ -28,10 +28,6 @@ column axes family k = samplePixel (axes .x) (family .edge) (family .border) k
 
 abbrev pub row : Axes → Family → ℕ → ℕ
 row axes family k = samplePixel (axes .y) (family .edge) (family .border) k
-
--- the level of a plane at a column and a row
-abbrev pub levelAt : List ℕ → Frame → ℕ → ℕ → ℕ
-levelAt plane frame x y = getD plane (y * frame .width + x) 0
 
 -- sample k lies in the picture
 abbrev pub sampleInside : Frame → Family → Axes → ℕ → Bool

@@ -10,7 +10,7 @@ ghost use mathlib.Core.Bool.{false};
 ghost use Prim.Native.Nat.{_+_, _*_, _≤_, _<_};
 ghost use lib.ListN.{length};
 ghost use Rattle.refusals.specs.Outcome.{accepted};
-ghost use Rattle.refusals.specs.Plane.{badPlane, badFrame};
+ghost use Rattle.refusals.specs.Pixels.{badFrame};
 ghost use Rattle.tables.specs.Table.{badTable};
 ghost use Rattle.levels.specs.Levels.{codeOf};
 ghost use Rattle.reader.specs.Reading.{tagOf, reading};
@@ -37,14 +37,13 @@ fn sample_at(plane: &[u8], frame: Frame, family: Family, axes: Axes, i: usize, j
     let side = family.edge as usize + 2 * border;
     let x = places::pixel(axes.x, side, border + i, border + j);
     let y = places::pixel(axes.y, side, border + i, border + j);
-    let width = frame.width;
-    if width <= x {
+    if frame.width <= x {
         return Sample::Outside;
     }
     if frame.height <= y {
         return Sample::Outside;
     }
-    Sample::Level(plane[y * width + x])
+    Sample::Level(plane[refusals::place_of(frame, x, y)])
 }
 
 // The levels of the samples, into `levels`; false where a sample lies outside the picture.

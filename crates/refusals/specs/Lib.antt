@@ -1,2 +1,3 @@
 pub mod Outcome
 pub mod Plane
+pub mod Pixels

@@ -2,7 +2,6 @@
 use Prim.Native.Nat.{ℕ, _*_}
 use mathlib.Core.Bool.{Bool, not, _||_}
 use lib.Dec.{ltb, eqb}
-use Rattle.refusals.specs.declared.Frame.{Frame}
 
 unfoldable pub badSides : ℕ → ℕ → Bool
 badSides width height = (eqb width 0 || ltb 4096 width) || (eqb height 0 || ltb 4096 height)
@@ -11,7 +10,3 @@ badSides width height = (eqb width 0 || ltb 4096 width) || (eqb height 0 || ltb 
 unfoldable pub badPlane : ℕ → ℕ → ℕ → Bool
 unfolding badSides
 badPlane len width height = badSides width height || not (eqb len (width * height))
-
--- an 8-bit plane of len bytes
-abbrev pub badFrame : ℕ → Frame → Bool
-badFrame len frame = badPlane len (frame .width) (frame .height)

@@ -1,7 +1,9 @@
 // What several public entries share: the outcome of a call (specs/Outcome.antt), the structs that describe a plane,
-// and refusal 1.
+// refusal 1, and where a pixel of an 8-bit plane stands.
 ghost use mathlib.Core.Path.{_≡_};
-ghost use Rattle.refusals.specs.Plane.{badSides, badPlane, badFrame};
+ghost use Prim.Native.Nat.{_≤_};
+ghost use Rattle.refusals.specs.Plane.{badSides, badPlane};
+ghost use Rattle.refusals.specs.Pixels.{packedFrame, badFrame, placeOf, SmallFrame};
 
 // The sides of a plane of floats.
 pub struct Shape {
@@ -40,9 +42,24 @@ pub fn bad_plane(len: usize, width: usize, height: usize) -> bool
     len != width * height
 }
 
+// An 8-bit plane whose rows follow each other.
+pub fn packed_frame(width: usize, height: usize) -> Frame
+    ensures { λ r. ⌜ r ≡ packedFrame width height ⌝ }
+{
+    Frame { width, height }
+}
+
 // Refusal 1 for an 8-bit plane of `len` bytes.
 pub fn bad_frame(len: usize, frame: Frame) -> bool
     ensures { λ r. ⌜ r ≡ badFrame len frame ⌝ }
 {
     bad_plane(len, frame.width, frame.height)
+}
+
+// The byte of an 8-bit plane that is pixel (x, y).
+pub fn place_of(frame: Frame, x: usize, y: usize) -> usize
+    requires { ⌜ SmallFrame frame × (x ≤ 4096) × (y ≤ 4096) ⌝ }
+    ensures { λ r. ⌜ r ≡ placeOf frame x y ⌝ }
+{
+    y * frame.width + x
 }

@@ -8,7 +8,8 @@ use lib.Seq.{sets}
 use Rattle.lists.specs.Tab.{tabulate}
 use Rattle.refusals.specs.Outcome.{Outcome, accepted}
 use Rattle.reader.specs.Reading.{Tag, reading}
-use Rattle.listing.specs.Listing.{quadCount, rowSize, quadSize, rowOf, cornersOf, readings, inFront, listingOf, listing}
+use Rattle.points.specs.Numbers.{quadSize}
+use Rattle.listing.specs.Listing.{quadCount, rowSize, rowOf, cornersOf, readings, inFront, listingOf, listing}
 use Rattle.listing.proofs.Flat.{parts-none, parts-more}
 use Rattle.listing.proofs.Room.{good-list}
 use Rattle.listing.proofs.Listing.{row-size, corners-size, read}

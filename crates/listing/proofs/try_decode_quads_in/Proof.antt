@@ -4,7 +4,7 @@ use mathlib.Core.Bool.{false}
 use mathlib.Core.List.{List}
 use Prim.Native.Nat.{ℕ}
 use lib.ListN.{length}
-use Rattle.refusals.specs.Plane.{badFrame}
+use Rattle.refusals.specs.Pixels.{badFrame}
 use Rattle.tables.specs.Table.{badTable}
 use Rattle.tag_families.specs.Codes.{t16h5, t25h7, t25h9, t36h11}
 use Rattle.tag_families.specs.Families.{familyOf, codesOf}

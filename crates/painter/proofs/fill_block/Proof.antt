@@ -3,10 +3,10 @@ use mathlib.Core.Path.{_≡_, ap, _∙_}
 use Prim.Native.Nat.{ℕ, _+_, _-_, _≤_}
 use native.Mathlib.Omega.{arith}
 use lib.ListN.{length}
-use Rattle.refusals.proofs.Plane.{good-plane}
-use Rattle.painter.specs.Picture.{placeOf, repainted, blockPixel}
+use Rattle.refusals.proofs.Pixels.{good-frame}
+use Rattle.painter.specs.Picture.{runFilled, repainted, blockPixel}
 use Rattle.painter.proofs.Picture.{length-repainted}
-use Rattle.painter.proofs.Block.{block-none, block-more, row-inside}
+use Rattle.painter.proofs.Block.{block-none, block-more}
 use Rattle.painter.proofs.fill_block.Statement.{statement}
 use Rattle.painter.proofs.fill_block.Tie as tie
 
@@ -19,29 +19,21 @@ abbrev μ-loop : tie.MeasureT-loop
 loop-holds : tie.Need-loop-holds Inv-loop μ-loop
 loop-holds c = let a = c .before .args in (omega arith, block-none (a .frame) (a .x) (a .y) (a .wide) (a .shade) (a .plane .now))
 
-add-fill-run : tie.Need-add-fill-run Inv-loop μ-loop
-add-fill-run c = omega arith
+add-place-of : tie.Need-add-place-of Inv-loop μ-loop
+add-place-of c = omega arith
 
--- the row that is filled next lies in the plane, which is small enough
-inside : (c : tie.After-struct-known Inv-loop μ-loop) → let a = c .before .before .before .before .before .args in let i = c .before .before .before .loop .i in
-    (placeOf (a .frame) (a .x) (a .y + i) + a .wide ≤ length (a .plane .now)) × (length (a .plane .now) ≤ 16777216)
-inside c =
-    let s = c .before .before .before .before .before in
-    let a = s .args in
-    let i = c .before .before .before .loop .i in
-    (row-inside (a .frame) (length (a .plane .now)) (a .x) (a .y + i) (a .wide) (s .pre .0) (s .pre .1) (omega arith), good-plane (s .pre .0) .few)
-
-mul-fill-run : tie.Need-mul-fill-run Inv-loop μ-loop
-mul-fill-run c = omega (arith, inside c .0, inside c .1)
-
-add-fill-run-2 : tie.Need-add-fill-run-2 Inv-loop μ-loop
-add-fill-run-2 c = omega (arith, inside c .0, inside c .1)
+place-of-requires : tie.Need-place-of-requires Inv-loop μ-loop
+place-of-requires c κs =
+    let g = good-frame (c .before .before .before .before .pre .0) in
+    (g .small, omega (arith, g .sides .width-le), omega (arith, g .sides .height-le))
 
 fill-run-requires : tie.Need-fill-run-requires Inv-loop μ-loop
 fill-run-requires c κs =
-    let a = c .before .before .before .before .before .args in
+    let s = c .before .before .before .before .before in
+    let a = s .args in
     let l = c .before .before .before .loop in
-    omega (arith, inside c .0, ap length (l .inv .1) ∙ length-repainted (a .frame) (blockPixel (a .x) (a .y) (a .wide) (l .i) (a .shade)) (a .plane .now))
+    let inside = good-frame (s .pre .0) .run-inside (a .x) (a .y + l .i) (a .wide) (s .pre .1) (omega arith) in
+    omega (arith, c .place-of .ensures, inside, ap length (l .inv .1) ∙ length-repainted (a .frame) (blockPixel (a .x) (a .y) (a .wide) (l .i) (a .shade)) (a .plane .now))
 
 add-i : tie.Need-add-i Inv-loop μ-loop
 add-i c = omega arith
@@ -51,12 +43,12 @@ loop-less c = omega arith
 
 loop-again : tie.Need-loop-again Inv-loop μ-loop
 loop-again c =
+    let f = c .before .before in
     let l = c .before .before .before .before .before .before in
     let s = l .before .before in
-    let a = s .args in (
-      omega arith,
-      block-more (a .frame) (a .x) (a .y) (a .wide) (a .shade) (a .plane .now) (l .loop .i) (l .loop .plane) (c .before .before .fill-run .last .0) (good-plane (s .pre .0) .sides .wide) (s .pre .1) (l .loop .inv .1) (c .before .before .fill-run .ensures),
-    )
+    let a = s .args in
+    let run = f .fill-run .ensures ∙ ap (λ (k : ℕ). runFilled k (a .wide) (a .shade) (l .loop .plane)) (f .before .place-of .ensures) in
+    (omega arith, block-more (a .frame) (a .x) (a .y) (a .wide) (a .shade) (a .plane .now) (l .loop .i) (l .loop .plane) (f .fill-run .last .0) (s .pre .1) (l .loop .inv .1) run)
 
 same-length : tie.Need-same-length Inv-loop μ-loop
 same-length c =
@@ -78,9 +70,8 @@ fill-block-spec =
     Inv-loop
     μ-loop
     loop-holds
-    add-fill-run
-    mul-fill-run
-    add-fill-run-2
+    add-place-of
+    place-of-requires
     fill-run-requires
     add-i
     loop-less

@@ -1,24 +1,15 @@
 -- The two places of the module, tested against the picture's sides. Assumes nothing.
-use mathlib.Core.Path.{_≡_, refl, sym, ap, _∙_, subst}
-use mathlib.Core.List.{List}
-use Prim.Native.Nat.{ℕ, _+_, _*_, _<_, _≤_}
-use native.Mathlib.Nat.{mul-le-mul}
+use mathlib.Core.Path.{_≡_, sym, ap, _∙_}
+use Prim.Native.Nat.{ℕ, _+_, _*_}
 use native.Mathlib.Omega.{arith}
-use lib.ListN.{length}
-use Rattle.lists.proofs.Grid.{inside}
-use Rattle.refusals.specs.declared.Frame.{Frame}
-use Rattle.tables.specs.declared.Family.{Family}
-use Rattle.reader.specs.Sampling.{Readable}
+use lib.ListN.{getD}
+use Rattle.refusals.proofs.Pixels.{good-frame, pixel-inside}
+use Rattle.reader.specs.Reading.{column, row}
+use Rattle.reader.specs.declared.Sample.the-variants.{Level}
 use Rattle.reader.proofs.Samples.{sample-place, outside-x, outside-y, within}
 use borrow.Author.Needs.{needs}
 use Rattle.reader.proofs.sample_at.Statement.{statement}
 use Rattle.reader.proofs.sample_at.Tie as tie
-
--- a pixel of the picture is a place of the plane
-index : (plane : List ℕ) (frame : Frame) (family : Family) (x y : ℕ) → Readable plane frame family → x < frame .width → y < frame .height
-    → (y * frame .width + x < length plane) × (length plane ≤ 16777216)
-index plane frame family x y r hx hy =
-    (subst (λ (n : ℕ). y * frame .width + x < n) (sym (r .whole)) (inside (frame .width) y x hx (frame .height) hy), omega (arith, r .whole, mul-le-mul (r .width-le) (r .height-le)))
 
 cast-border : tie.Need-cast-border
 cast-border c = search needs
@@ -50,59 +41,60 @@ add-pixel-4 c = search needs
 pixel-requires-2 : tie.Need-pixel-requires-2
 pixel-requires-2 c κs = search needs
 
+-- when both places are worked out
+module _ (q : tie.After-pixel2) where
+  abbrev start : tie.Start
+  start = q .before .before .before .before .before
+
+  abbrev x : ℕ
+  x = q .before .pixel .result
+
+  abbrev y : ℕ
+  y = q .pixel2 .result
+
+  abbrev sample : ℕ
+  sample = start .args .i * start .args .family .edge + start .args .j
+
+  column-is : x ≡ column (start .args .axes) (start .args .family) sample
+  column-is =
+      let a = start .args in
+      q .before .pixel .ensures ∙ sym (sample-place (a .axes .x) (a .family .edge) (a .family .border) (a .i) (a .j) (omega arith))
+
+  row-is : y ≡ row (start .args .axes) (start .args .family) sample
+  row-is =
+      let a = start .args in
+      q .pixel2 .ensures ∙ sym (sample-place (a .axes .y) (a .family .edge) (a .family .border) (a .i) (a .j) (omega arith))
+
 returns : tie.Need-returns
 returns c =
-    let q = c .before in
-    let p = q .before in
-    let s = p .before .before .before .before in
-    let a = s .args in
-    let k = a .i * a .family .edge + a .j in
-    let ex = p .pixel .ensures ∙ sym (sample-place (a .axes .x) (a .family .edge) (a .family .border) (a .i) (a .j) (omega arith)) in
-    let ey = q .pixel2 .ensures ∙ sym (sample-place (a .axes .y) (a .family .edge) (a .family .border) (a .i) (a .j) (omega arith)) in
-    outside-x (a .plane .now) (a .frame) (a .family) (a .axes) k (p .pixel .result) (q .pixel2 .result) ex ey (c .if1 .taken)
+    let q = c .before .before in
+    let a = start q .args in
+    outside-x (a .plane .now) (a .frame) (a .family) (a .axes) (sample q) (x q) (y q) (column-is q) (row-is q) (c .if1 .taken)
 
 returns-2 : tie.Need-returns-2
 returns-2 c =
-    let q = c .before .before .before in
-    let p = q .before in
-    let s = p .before .before .before .before in
-    let a = s .args in
-    let k = a .i * a .family .edge + a .j in
-    let ex = p .pixel .ensures ∙ sym (sample-place (a .axes .x) (a .family .edge) (a .family .border) (a .i) (a .j) (omega arith)) in
-    let ey = q .pixel2 .ensures ∙ sym (sample-place (a .axes .y) (a .family .edge) (a .family .border) (a .i) (a .j) (omega arith)) in
-    outside-y (a .plane .now) (a .frame) (a .family) (a .axes) k (p .pixel .result) (q .pixel2 .result) ex ey (c .if2 .taken)
-
-mul-t12 : tie.Need-mul-t12
-mul-t12 c =
-    let q = c .before .before .before in
-    let a = q .before .before .before .before .before .args in
-    let h = index (a .plane .now) (a .frame) (a .family) (q .before .pixel .result) (q .pixel2 .result) (q .before .before .before .before .before .pre .0) (c .before .before .if1 .left) (c .if2 .left) in
-    omega (arith, h .0, h .1)
-
-add-t13 : tie.Need-add-t13
-add-t13 c =
-    let q = c .before .before .before in
-    let a = q .before .before .before .before .before .args in
-    let h = index (a .plane .now) (a .frame) (a .family) (q .before .pixel .result) (q .pixel2 .result) (q .before .before .before .before .before .pre .0) (c .before .before .if1 .left) (c .if2 .left) in
-    omega (arith, h .0, h .1)
-
-shared-slice-read-t16 : tie.Need-shared-slice-read-t16
-shared-slice-read-t16 c =
     let q = c .before .before .before .before in
-    let a = q .before .before .before .before .before .args in
-    let h = index (a .plane .now) (a .frame) (a .family) (q .before .pixel .result) (q .pixel2 .result) (q .before .before .before .before .before .pre .0) (c .before .before .before .if1 .left) (c .before .if2 .left) in
-    h .0
+    let a = start q .args in
+    outside-y (a .plane .now) (a .frame) (a .family) (a .axes) (sample q) (x q) (y q) (column-is q) (row-is q) (c .if2 .taken)
+
+place-of-requires : tie.Need-place-of-requires
+place-of-requires c κs =
+    let g = good-frame (start (c .before .before .before .before) .pre .0 .framed) in
+    (g .small, omega (arith, c .before .before .if1 .left, g .sides .width-le), omega (arith, c .if2 .left, g .sides .height-le))
+
+shared-slice-read-t15 : tie.Need-shared-slice-read-t15
+shared-slice-read-t15 c =
+    let e = c .before .before in
+    let q = e .before .before .before .before in
+    omega (arith, c .before .place-of .ensures, pixel-inside (good-frame (start q .pre .0 .framed)) (x q) (y q) (e .before .before .if1 .left) (e .if2 .left))
 
 returns-3 : tie.Need-returns-3
 returns-3 c =
-    let q = c .before .before .before .before in
-    let p = q .before in
-    let s = p .before .before .before .before in
-    let a = s .args in
-    let k = a .i * a .family .edge + a .j in
-    let ex = p .pixel .ensures ∙ sym (sample-place (a .axes .x) (a .family .edge) (a .family .border) (a .i) (a .j) (omega arith)) in
-    let ey = q .pixel2 .ensures ∙ sym (sample-place (a .axes .y) (a .family .edge) (a .family .border) (a .i) (a .j) (omega arith)) in
-    within (a .plane .now) (a .frame) (a .family) (a .axes) k (p .pixel .result) (q .pixel2 .result) ex ey (c .before .before .before .if1 .left) (c .before .if2 .left)
+    let e = c .before .before in
+    let q = e .before .before .before .before in
+    let a = start q .args in
+    ap (λ (k : ℕ). Level (getD (a .plane .now) k 0)) (c .before .place-of .ensures)
+    ∙ within (a .plane .now) (a .frame) (a .family) (a .axes) (sample q) (x q) (y q) (column-is q) (row-is q) (e .before .before .if1 .left) (e .if2 .left)
 
 pub sample-at-spec : {M : Type 1} → statement M
 sample-at-spec =
@@ -120,7 +112,6 @@ sample-at-spec =
     pixel-requires-2
     returns
     returns-2
-    mul-t12
-    add-t13
-    shared-slice-read-t16
+    place-of-requires
+    shared-slice-read-t15
     returns-3)

@@ -3,7 +3,7 @@ use mathlib.Core.Path.{sym, ap, _∙_}
 use Prim.Native.Nat.{ℕ}
 use native.Mathlib.Omega.{arith}
 use lib.ListN.{length}
-use Rattle.refusals.specs.Plane.{badFrame}
+use Rattle.refusals.specs.Pixels.{badFrame}
 use Rattle.painter.specs.Printable.{Printable}
 use Rattle.painter.proofs.Picture.{length-repainted}
 use Rattle.painter.proofs.Printable.{good-print}

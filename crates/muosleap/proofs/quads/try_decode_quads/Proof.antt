@@ -3,7 +3,7 @@ use mathlib.Core.Path.{_≡_, sym, _∙_}
 use mathlib.Core.Bool.{false}
 use lib.ListN.{length}
 use borrow.Author.Needs.{needs}
-use Rattle.refusals.specs.Plane.{badFrame}
+use Rattle.refusals.specs.Pixels.{badFrame}
 use Rattle.tables.specs.Table.{badTable}
 use Rattle.listing.specs.Listing.{badList, listing}
 use Rattle.muosleap.specs.Quads.{decodeQuads}

@@ -4,7 +4,7 @@ use mathlib.Core.Bool.{false, not}
 use lib.ListN.{length}
 use borrow.Author.Needs.{needs}
 use borrow.Author.Tests.{lt-ltb, le-ltb}
-use Rattle.refusals.specs.Plane.{badFrame}
+use Rattle.refusals.specs.Pixels.{badFrame}
 use Rattle.tag_families.specs.Families.{isFamily, familyOf, codesOf}
 use Rattle.listing.specs.Listing.{badList, listing}
 use Rattle.muosleap.specs.Quads.{decodeQuadsIn}

@@ -1,7 +1,7 @@
--- The four corners are those of the definition. Assumes nothing.
+-- The four numbers are those of the definition. Assumes nothing.
 use borrow.Author.Needs.{needs}
-use Rattle.listing.proofs.quad_at.Statement.{statement}
-use Rattle.listing.proofs.quad_at.Tie as tie
+use Rattle.points.proofs.quad_at.Statement.{statement}
+use Rattle.points.proofs.quad_at.Tie as tie
 
 mul-at : tie.Need-mul-at
 mul-at c = search needs

@@ -1,9 +1,9 @@
 -- Four corners, one after the other, are a quad. Assumes nothing.
 use Prim.Native.Nat.{_*_}
 use borrow.Author.Needs.{needs}
-use Rattle.listing.proofs.Runs.{four-corners}
-use Rattle.listing.proofs.put_quad.Statement.{statement}
-use Rattle.listing.proofs.put_quad.Tie as tie
+use Rattle.points.proofs.Numbers.{four-corners}
+use Rattle.points.proofs.put_quad.Statement.{statement}
+use Rattle.points.proofs.put_quad.Tie as tie
 
 mul-at : tie.Need-mul-at
 mul-at c = search needs
@@ -39,7 +39,7 @@ returns c =
     let p1 = p2 .before .before .before .before in
     let p0 = p1 .before .before .before .before in
     let a = p0 .before .before .before .args in
-    four-corners (a .quad) (8 * a .q) (a .corners .now) (p0 .put-point .last .0) (p1 .put-point2 .last .0) (p2 .put-point3 .last .0) (p3 .put-point4 .last .0)
+    four-corners (a .quad) (8 * a .q) (a .quads .now) (p0 .put-point .last .0) (p1 .put-point2 .last .0) (p2 .put-point3 .last .0) (p3 .put-point4 .last .0)
     (p0 .put-point .ensures) (p1 .put-point2 .ensures) (p2 .put-point3 .ensures) (p3 .put-point4 .ensures)
 
 pub put-quad-spec : {M : Type 1} → statement M
