@@ -11,7 +11,8 @@ use Rattle.points.specs.Turned.{turnedLeft}
 use Rattle.tables.specs.declared.Family.{Family}
 use Rattle.painter.specs.declared.Print.{Print}
 use Rattle.reader.specs.Reading.{Tag}
-use Rattle.listing.specs.Listing.{Listing, quadAt, numbersOf, rowAt, cornersAt}
+use Rattle.points.specs.Numbers.{quadAt, cornersAt}
+use Rattle.listing.specs.Listing.{Listing, rowAt}
 use Rattle.muosleap.specs.PaintTag.{Painting, paintTag}
 use Rattle.muosleap.specs.Quad.{decodeQuad}
 use Rattle.muosleap.specs.Quads.{decodeQuads}

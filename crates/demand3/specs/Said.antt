@@ -1,21 +1,22 @@
 -- What demand 3 says of the functions that paint and read. `paper`'s Demand3 has the words that are used here. Assumes nothing.
 use mathlib.Core.Path.{_≡_}
-use mathlib.Core.List.{List, [], _∷_, _++_}
+use mathlib.Core.List.{List, _++_}
 use Prim.Native.Nat.{ℕ, _<_}
 use Rattle.refusals.specs.Outcome.{Outcome, accepted, refused}
 use Rattle.refusals.specs.declared.Frame.{Frame}
 use Rattle.points.specs.declared.Quad.{Quad}
 use lib.Ieee.{Float}
 use Rattle.points.specs.Turned.{turnedOnce, turnedLeft}
+use Rattle.points.specs.Numbers.{numbersOf, cornersAt}
 use Rattle.tables.specs.declared.Family.{Family}
 use Rattle.painter.specs.declared.Print.{Print}
 use Rattle.reader.specs.Reading.{Tag}
-use Rattle.listing.specs.Listing.{Listing, listingOf, numbersOf, rowAt, cornersAt}
+use Rattle.listing.specs.Listing.{Listing, listingOf, rowOf, cornersOf, rowAt}
 use Rattle.muosleap.specs.PaintTag.{Painting, paintTag}
 use Rattle.muosleap.specs.Quad.{decodeQuad}
 use Rattle.muosleap.specs.Quads.{decodeQuads}
 use Rattle.paper.specs.Starts.{fromStart}
-use Rattle.paper.specs.Demand3.{Passes, Painted, ownTag, ownTurn, printOrder}
+use Rattle.paper.specs.Demand3.{Passes, Painted, ownTag}
 
 -- "Start s of the painter's quad is then read with the same table and threshold, on the plane as the painter left it."; where the painter
 -- refuses there is no quad to read, and its number stands
@@ -59,4 +60,4 @@ pub record StartsListed (plane : List ℕ) (frame : Frame) (family : Family) (co
   -- "and this start's row and corner numbers, in every accepted list reading of this plane that holds it"
   pub own : (id : ℕ) (quad : Quad) (picture : List ℕ) → Painted family codes id word plane frame print quad picture
       → (n s : ℕ) → result .answer ≡ accepted n → s < n → s < 4
-      → (rowAt (result .rows) s ≡ 0 ∷ id ∷ ownTurn s ∷ []) × (cornersAt (result .corners) s ≡ numbersOf (printOrder quad))
+      → (rowAt (result .rows) s ≡ rowOf (accepted (ownTag id quad s))) × (cornersAt (result .corners) s ≡ cornersOf (accepted (ownTag id quad s)))

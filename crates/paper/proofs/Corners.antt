@@ -12,6 +12,7 @@ use lib.Ieee.{Float}
 use lib.ListN.{length, getD}
 use Rattle.lists.specs.Each.{each}
 use Rattle.lists.proofs.Each.{each-of}
+use Rattle.refusals.specs.Pixels.{levelAt}
 use Rattle.refusals.specs.declared.Frame.{Frame}
 use Rattle.points.specs.declared.Point.{Point}
 use Rattle.points.specs.declared.Quad.{Quad}
@@ -26,7 +27,6 @@ use Rattle.places.proofs.Painted.{HalfBefore, half-1024ths, half-pixel, half-go
 use Rattle.places.proofs.Turned.{bad-turned, outside-turned}
 use Rattle.painter.specs.Corners.{halfBefore, outerCorners, printQuad}
 use Rattle.painter.specs.Printable.{Printable}
-use Rattle.painter.specs.Picture.{placeOf}
 use Rattle.painter.specs.Tag.{sideOf, sizeOf, cellAt, turnedCell, moduleBit, shadeOf, quarter, painted}
 use Rattle.painter.specs.declared.Cell.{Cell}
 use Rattle.painter.specs.declared.Print.{Print}
@@ -34,7 +34,7 @@ use Rattle.painter.proofs.Half.{half-zero, half-suc}
 use Rattle.painter.proofs.Painted.{painted-middle}
 use Rattle.painter.proofs.Printable.{good-print, Good, cells-le}
 use Rattle.painter.proofs.Turned.{quarter-back, inset, module-shade, CellIn}
-use Rattle.reader.specs.Reading.{samples, column, row, levelAt, sampleInside, samplesInside, levelsOf}
+use Rattle.reader.specs.Reading.{samples, column, row, sampleInside, samplesInside, levelsOf}
 use Rattle.reader.proofs.Starts.{column-turned, row-turned, inside-start}
 
 -- the painter's coordinate lies half a pixel before pixel n
@@ -73,8 +73,8 @@ module _ (len : ℕ) (frame : Frame) (edge border word : ℕ) (print : Print) (p
       let y = print .y in
       let x′ = x + sizeOf edge border print in
       let y′ = y + sizeOf edge border print in
-      let hx : x′ ≤ 4096 = omega (arith, good .placed .right, good .plane .sides .width-le) in
-      let hy : y′ ≤ 4096 = omega (arith, good .placed .low, good .plane .sides .height-le) in
+      let hx : x′ ≤ 4096 = omega (arith, good .placed .right, good .framed .sides .width-le) in
+      let hy : y′ ≤ 4096 = omega (arith, good .placed .low, good .framed .sides .height-le) in
       bad-turned (print .turn) (outerCorners edge border print)
       ∙ no-corner badCorner (outerCorners edge border print) (good-corner x y (omega arith) (omega arith)) (good-corner x′ y hx (omega arith)) (good-corner x′ y′ hx hy) (good-corner x y′ (omega arith) hy)
 

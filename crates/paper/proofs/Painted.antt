@@ -11,6 +11,7 @@ use lib.ListN.{length, getD}
 use Rattle.lists.specs.Tab.{tabulate}
 use Rattle.lists.proofs.Tab.{length-tabulate, getD-tabulate}
 use Rattle.refusals.specs.Outcome.{accepted}
+use Rattle.refusals.specs.Pixels.{levelAt}
 use Rattle.refusals.specs.declared.Frame.{Frame}
 use Rattle.points.specs.declared.Quad.{Quad}
 use Rattle.points.specs.Turned.{answerCorners}
@@ -31,7 +32,7 @@ use Rattle.painter.specs.Printable.{Printable}
 use Rattle.painter.specs.Tag.{painted}
 use Rattle.painter.specs.declared.Print.{Print}
 use Rattle.painter.proofs.Printable.{good-print}
-use Rattle.reader.specs.Reading.{samples, column, row, levelAt, levelsOf, reading}
+use Rattle.reader.specs.Reading.{samples, column, row, levelsOf, reading}
 use Rattle.reader.proofs.Starts.{levels-size}
 use Rattle.paper.proofs.Misprints.{Has, has-one, has-zero}
 use Rattle.paper.proofs.Clear.{Taken, Printed, word-read, square-word}

@@ -1,20 +1,21 @@
 -- Demand 3, undivided, over the definitions that the public entries are proved equal to. Each hypothesis has its sentence of
 -- document 01 ("What demand 3 compares") beside it. Assumes nothing.
 use mathlib.Core.Path.{_≡_}
-use mathlib.Core.List.{List, [], _∷_}
+use mathlib.Core.List.{List}
 use Prim.Native.Nat.{ℕ, _-_, _%_, _<_}
 use lib.Ieee.{Float}
-use lib.ListN.{length, getD, take}
+use lib.ListN.{length, getD}
 use Rattle.refusals.specs.Outcome.{Outcome, accepted, Done}
 use Rattle.refusals.specs.declared.Frame.{Frame}
 use Rattle.points.specs.declared.Quad.{Quad}
 use Rattle.points.specs.Turned.{turnedLeft}
+use Rattle.points.specs.Numbers.{quadAt, cornersAt}
 use Rattle.tables.specs.declared.Family.{Family}
 use Rattle.tag_families.specs.Families.{familyOf, codesOf}
 use Rattle.word.specs.Word.{differing}
 use Rattle.painter.specs.declared.Print.{Print}
 use Rattle.reader.specs.Reading.{Tag}
-use Rattle.listing.specs.Listing.{Listing, quadAt, numbersOf, rowAt, cornersAt}
+use Rattle.listing.specs.Listing.{Listing, rowOf, cornersOf, rowAt, butTurn}
 use Rattle.muosleap.specs.Likeness.{checkLikeness}
 use Rattle.muosleap.specs.PaintTag.{Painting, paintTag, paintTagIn}
 use Rattle.muosleap.specs.Quad.{decodeQuad, decodeQuadIn}
@@ -58,7 +59,7 @@ pub record ReadsOwn (family : Family) (codes : List ℕ) (id : ℕ) (frame : Fra
   -- whatever other quads
   pub listed : (quads : List Float) (rows : List ℕ) (corners : List Float) (n i : ℕ) → let result = decodeQuads shown frame family codes quads rows corners in
       result .answer ≡ accepted n → i < n → quadAt quads i ≡ turnedLeft s quad
-      → (rowAt (result .rows) i ≡ 0 ∷ id ∷ ownTurn s ∷ []) × (cornersAt (result .corners) i ≡ numbersOf (printOrder quad))
+      → (rowAt (result .rows) i ≡ rowOf (accepted (ownTag id quad s))) × (cornersAt (result .corners) i ≡ cornersOf (accepted (ownTag id quad s)))
 
 -- ---- any quad on any plane
 
@@ -88,7 +89,7 @@ pub record Demand3 : Type 0 where
       let result′ = decodeQuads plane frame family codes quads′ rows′ corners′ in
       result .answer ≡ accepted n → result′ .answer ≡ accepted n′ → n ≡ n′
       → ((i : ℕ) → i < n → OtherStart (quadAt quads i) (quadAt quads′ i))
-      → (i : ℕ) → i < n → (take 2 (rowAt (result .rows) i) ≡ take 2 (rowAt (result′ .rows) i)) × (cornersAt (result .corners) i ≡ cornersAt (result′ .corners) i)
+      → (i : ℕ) → i < n → (butTurn (rowAt (result .rows) i) ≡ butTurn (rowAt (result′ .rows) i)) × (cornersAt (result .corners) i ≡ cornersAt (result′ .corners) i)
   -- the entries by family number are those with the family's table
   pub by-number : (number : ℕ) → number < 5 → (plane : List ℕ) (frame : Frame)
       → ((quad : Quad) → decodeQuadIn plane frame number quad ≡ decodeQuad plane frame (familyOf number) (codesOf number) quad)

@@ -86,7 +86,7 @@ print-quad-requires : tie.Need-print-quad-requires
 print-quad-requires c κs =
     let q = c .before .before .before .before .before .before .before .before in
     let g = good-print (printable q) in
-    (omega (arith, g .placed .right, g .plane .sides .width-le), omega (arith, g .placed .low, g .plane .sides .height-le))
+    (omega (arith, g .placed .right, g .framed .sides .width-le), omega (arith, g .placed .low, g .framed .sides .height-le))
 
 same-length : tie.Need-same-length
 same-length c = search needs
