@@ -192,7 +192,9 @@ fn scan_row(
 ) -> usize
     requires { ⌜ badPlane (length (now mat)) (shape .width) (shape .height) ≡ false ⌝ }
     requires { ⌜ (lt maxF32 threshold ≡ false) × (3 * length (now mat) + 1 ≤ length (now worklist)) × (0 < row) × (row + 1 < shape .height) × (before ≤ row * shape .width) ⌝ }
-    ensures { λ r. ⌜ Onward threshold shape (row * shape .width) (record { plane = now (mat .entry); rows = now (rows .entry); total = before }) ((row + 1) * shape .width) (record { plane = now (mat .exit); rows = now (rows .exit); total = r }) ⌝ }
+    ensures { λ r. ⌜ Onward threshold shape
+        (row * shape .width) (record { plane = now (mat .entry); rows = now (rows .entry); total = before })
+        ((row + 1) * shape .width) (record { plane = now (mat .exit); rows = now (rows .exit); total = r }) ⌝ }
     ensures { λ r. ⌜ r ≤ (row + 1) * shape .width ⌝ }
 {
     let start = row * shape.width;

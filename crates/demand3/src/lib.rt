@@ -124,7 +124,8 @@ pub fn list_starts(
     rows: &mut [u64],
     corners: &mut [f32],
 ) -> Listed
-    ensures { λ r. ⌜ StartsListed (now (plane .entry)) frame family (now (codes .entry)) word print (now (rows .entry)) (now (corners .entry)) (now (plane .exit)) (listingOf (paperListed r) (now (rows .exit)) (now (corners .exit))) ⌝ }
+    ensures { λ r. ⌜ StartsListed (now (plane .entry)) frame family (now (codes .entry)) word print (now (rows .entry)) (now (corners .entry))
+        (now (plane .exit)) (listingOf (paperListed r) (now (rows .exit)) (now (corners .exit))) ⌝ }
 {
     let painted = muosleap::painting::paint_tag(
         plane,

@@ -103,7 +103,8 @@ pub fn try_decode_quads(
     corners: &mut [f32],
 ) -> usize
     requires { ⌜ (badFrame (length (now plane)) frame ≡ false) × (badTable family (now codes) ≡ false) × (badList (length (now quads)) (length (now rows)) (length (now corners)) ≡ false) ⌝ }
-    ensures { λ r. ⌜ listingOf (accepted r) (now (rows .exit)) (now (corners .exit)) ≡ listing (now (plane .entry)) frame family (now (codes .entry)) (now (quads .entry)) (now (rows .entry)) (now (corners .entry)) ⌝ }
+    ensures { λ r. ⌜ listingOf (accepted r) (now (rows .exit)) (now (corners .exit))
+        ≡ listing (now (plane .entry)) frame family (now (codes .entry)) (now (quads .entry)) (now (rows .entry)) (now (corners .entry)) ⌝ }
 {
     let count = quads.len() / QUAD_SIZE;
     let mut q = 0;
@@ -127,7 +128,8 @@ pub fn try_decode_quads_in(
     corners: &mut [f32],
 ) -> usize
     requires { ⌜ (badFrame (length (now plane)) frame ≡ false) × (family < 5) × (badList (length (now quads)) (length (now rows)) (length (now corners)) ≡ false) ⌝ }
-    ensures { λ r. ⌜ listingOf (accepted r) (now (rows .exit)) (now (corners .exit)) ≡ listing (now (plane .entry)) frame (familyOf family) (codesOf family) (now (quads .entry)) (now (rows .entry)) (now (corners .entry)) ⌝ }
+    ensures { λ r. ⌜ listingOf (accepted r) (now (rows .exit)) (now (corners .exit))
+        ≡ listing (now (plane .entry)) frame (familyOf family) (codesOf family) (now (quads .entry)) (now (rows .entry)) (now (corners .entry)) ⌝ }
 {
     let table = tag_families::family(family);
     match family {

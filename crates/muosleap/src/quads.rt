@@ -20,7 +20,8 @@ pub fn try_decode_quads(
     rows: &mut [u64],
     corners: &mut [f32],
 ) -> Listed
-    ensures { λ r. ⌜ listingOf (paperListed r) (now (rows .exit)) (now (corners .exit)) ≡ decodeQuads (now (plane .entry)) frame family (now (codes .entry)) (now (quads .entry)) (now (rows .entry)) (now (corners .entry)) ⌝ }
+    ensures { λ r. ⌜ listingOf (paperListed r) (now (rows .exit)) (now (corners .exit))
+        ≡ decodeQuads (now (plane .entry)) frame family (now (codes .entry)) (now (quads .entry)) (now (rows .entry)) (now (corners .entry)) ⌝ }
 {
     if refusals::bad_frame(plane.len(), frame) {
         return Listed::Refused(1);
@@ -43,7 +44,8 @@ pub fn try_decode_quads_in(
     rows: &mut [u64],
     corners: &mut [f32],
 ) -> Listed
-    ensures { λ r. ⌜ listingOf (paperListed r) (now (rows .exit)) (now (corners .exit)) ≡ decodeQuadsIn (now (plane .entry)) frame family (now (quads .entry)) (now (rows .entry)) (now (corners .entry)) ⌝ }
+    ensures { λ r. ⌜ listingOf (paperListed r) (now (rows .exit)) (now (corners .exit))
+        ≡ decodeQuadsIn (now (plane .entry)) frame family (now (quads .entry)) (now (rows .entry)) (now (corners .entry)) ⌝ }
 {
     if refusals::bad_frame(plane.len(), frame) {
         return Listed::Refused(1);

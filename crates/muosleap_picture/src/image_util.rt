@@ -29,7 +29,8 @@ pub fn gaussian_blur_f32(
     temp: &mut [f32],
     out: &mut [f32],
 ) -> Filled
-    ensures { λ r. ⌜ record { answer = paperFilled r; temp = now (temp .exit); out = now (out .exit) } ≡ gaussianBlur (now (img .entry)) shape (now (weights .entry)) (now (temp .entry)) (now (out .entry)) ⌝ }
+    ensures { λ r. ⌜ record { answer = paperFilled r; temp = now (temp .exit); out = now (out .exit) }
+        ≡ gaussianBlur (now (img .entry)) shape (now (weights .entry)) (now (temp .entry)) (now (out .entry)) ⌝ }
 {
     let width = shape.width;
     let height = shape.height;

@@ -25,7 +25,8 @@ pub fn init_saddle_clusters(
     worklist: &mut [u32],
     rows: &mut [u64],
 ) -> Clusters
-    ensures { λ r. ⌜ record { answer = paperClusters r; plane = now («h_mat» .exit); rows = now (rows .exit) } ≡ initSaddleClusters (now («h_mat» .entry)) shape threshold (length (now (worklist .entry))) (now (rows .entry)) ⌝ }
+    ensures { λ r. ⌜ record { answer = paperClusters r; plane = now («h_mat» .exit); rows = now (rows .exit) }
+        ≡ initSaddleClusters (now («h_mat» .entry)) shape threshold (length (now (worklist .entry))) (now (rows .entry)) ⌝ }
     ensures { λ r. ⌜ WorklistKept (paperClusters r) (now (worklist .entry)) (now (worklist .exit)) ⌝ }
 {
     if refusals::bad_plane(h_mat.len(), shape.width, shape.height) {
