@@ -50,18 +50,19 @@ fn every_refusal_is_met() {
         bit_code(&[], 10, 3).map(|_| ()),
         Family::T16H5.try_decode_quads(&plane, SHAPE, &vec![tag; 1_025]).map(|_| ()),
     ];
-    assert_eq!(met, REFUSALS.map(Err));
+    let all: Vec<_> = REFUSALS.iter().map(|&refusal| Err(refusal)).collect();
+    assert_eq!(met[..], all);
 }
 
 #[test]
 fn refusals_have_numbers_and_texts_of_their_own() {
-    for (k, refusal) in REFUSALS.into_iter().enumerate() {
+    for (k, &refusal) in REFUSALS.iter().enumerate() {
         assert_eq!(refusal.number() as usize, k + 1);
         assert_eq!(Refusal::try_from(refusal.number()), Ok(refusal));
         assert!(refusal.to_string().starts_with(&format!("refusal {}: ", k + 1)));
         assert!(REFUSALS.iter().all(|other| *other == refusal || other.reason() != refusal.reason()));
     }
-    assert!(Refusal::try_from(0).is_err() && Refusal::try_from(17).is_err());
+    assert!(Refusal::try_from(0).is_err() && Refusal::try_from(REFUSALS.len() as u32 + 1).is_err());
 }
 
 #[test]
