@@ -45,14 +45,14 @@ impl Found {
     fn read(camera: &Camera, saddles: &mut Saddles) -> Result<Found, Refusal> {
         let samples = to_unit(&camera.picture);
         let start = Instant::now();
-        let clusters = saddles.find(&samples, &kernel(1.5))?;
-        let clustered = start.elapsed();
-        let centers: Vec<Point> = clusters.iter().map(|cluster| cluster.center()).collect::<Result<_, _>>()?;
+        let found = saddles.find(&samples, &kernel(1.5))?;
+        let (clusters, clustered) = (found.len(), start.elapsed());
+        let centers: Vec<Point> = found.map(|cluster| cluster.center()).collect::<Result<_, _>>()?;
         let quads: Vec<Quad> = camera.quads.iter().map(|quad| near(quad, &centers)).collect();
         let starts: Vec<Quad> = quads.iter().flat_map(|&quad| (0..4).map(move |start| quad.started(start))).collect();
         let start = Instant::now();
         let rows = FAMILY.try_decode_quads(&camera.picture, camera.shape, &starts)?;
-        Ok(Found { clusters: clusters.len(), quads, rows, times: [clustered, start.elapsed()] })
+        Ok(Found { clusters, quads, rows, times: [clustered, start.elapsed()] })
     }
 }
 
