@@ -43,5 +43,5 @@ fn number(option: &str, word: Option<OsString>, most: usize) -> Result<usize, St
     let asked = format!("{option} takes a number from 0 to {most}");
     let word = word.ok_or_else(|| asked.clone())?;
     let number = word.to_str().and_then(|word| word.parse().ok()).filter(|&number| number <= most);
-    number.ok_or_else(|| format!("{asked}, not {}", word.display()))
+    number.ok_or_else(|| format!("{asked}, not {}", word.to_string_lossy()))
 }
