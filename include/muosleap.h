@@ -15,24 +15,24 @@
  *
  * Buffers
  *   - A pointer and the count of elements behind it stand next to each other. A pointer to const is only read.
- *   - A plane is width * height samples, row by row; y grows downward. The counts of planes are counts of samples.
+ *   - A plane is width × height samples, row by row; y grows downward. The counts of planes are counts of samples.
  *   - A quad is eight numbers: x0 y0 x1 y1 x2 y2 x3 y3. So are the corners of a tag.
  *   - An output that is longer than what is written keeps the rest of its elements.
- *   - A word of edge * edge bits is a square of modules; its highest bit is the first module.
+ *   - A word of edge² bits is a square of modules; its highest bit is the first module.
  *
  * Families
  *   By number: 0 T16H5, 1 T25H7, 2 T25H9, 3 T36H11, 4 T36H11B1. Else a table is lent: edge (modules a side inside the border),
  *   border (modules), match threshold (`hamming_distance`) and the codes.
  *
  * Refusals
- *    1  a plane side is 0 or above 4,096, or a plane's length is not width * height
+ *    1  a plane side is 0 or above 4,096, or a plane's length is not width × height
  *    2  weights not an odd number from 1 to 15, or one outside 0.0 to 1.0 or NaN
- *    3  a sample to be blurred outside 0.0 to 1.0, a sample for the response, the threshold or the clusters of magnitude above
- *       65,536, or NaN in any of them
+ *    3  a sample to be blurred outside 0.0 to 1.0, a sample lent to the response, threshold or clusters of magnitude above 65,536,
+ *       or NaN in any of them
  *    4  threshold infinite or NaN
- *    5  worklist shorter than 3 * width * height + 1
- *    6  table with edge outside 1..8, border outside 1..4, no code or above 1,024 codes, match threshold outside 1..64, or a
- *       code of 2^(edge * edge) or more; or no such family
+ *    5  worklist shorter than 3 × width × height + 1
+ *    6  table with edge outside 1..8, border outside 1..4, no code or above 1,024 codes, match threshold outside 1..64, or a code
+ *       of 2^(edge²) or more; or no such family
  *    7  the table fails the likeness check
  *    8  a corner coordinate is NaN or of magnitude 16,384 or more
  *    9  a corner rounds outside the picture
@@ -40,8 +40,8 @@
  *   11  greatest minus least level below 50
  *   12  more unsure modules than allowed
  *   13  no code near in four turns
- *   14  painting word of 2^(edge * edge) or more, cell outside 1..64 pixels, turn above 3, light less than 50 above dark, or a tag
- *       that does not end at least one pixel before the right and lower edges
+ *   14  painting word of 2^(edge²) or more, cell outside 1..64 pixels, turn above 3, light less than 50 above dark, or a tag that
+ *       does not end at least one pixel before the right and lower edges
  *   15  no levels, or more than 64; for a centre, a sum or count of 2^24 or more, or a count of 0
  *   16  quad list not a multiple of 8 numbers or above 1,024 quads, or an output shorter than three numbers and eight corner
  *       numbers a quad
@@ -57,7 +57,7 @@ extern "C" {
 #endif
 
 /*
- * One turn of a word of edge * edge bits: place i * edge + j takes the bit of place j * edge + edge - 1 - i.
+ * One turn of a word of edge² bits: place i × edge + j takes the bit of place j × edge + edge - 1 - i.
  * Refusals: 6, for the edge alone.
  * word: the turned word.
  */
@@ -73,7 +73,7 @@ uint32_t muosleap_best_tag(uint64_t bits, uint8_t hamming_distance, const uint64
 
 /*
  * Whether a table can be read one way only: with the match threshold t, each code has at least t ones and t zeros in its square,
- * and any two codes in any turns, or one code in two turns, differ in at least 2 * t - 1 bits. The readers do not test this.
+ * and any two codes in any turns, or one code in two turns, differ in at least 2 × t - 1 bits. The readers do not test this.
  * Refusals: 6, 7.
  */
 uint32_t muosleap_check_likeness(uint8_t edge, uint8_t border, uint8_t hamming_distance, const uint64_t *codes,
@@ -166,7 +166,7 @@ uint32_t muosleap_response_threshold(const float *response, size_t response_coun
  * The clusters of a plane: connected sets, by four neighbours, of samples below the threshold, with at least one sample off the border,
  * in the order of their first such sample, row by row.
  * Refusals: 1, 3, 4, 5.
- * h_mat: the plane; clustered samples hold the largest finite float afterwards. worklist: at least 3 * width * height + 1 numbers for
+ * h_mat: the plane; clustered samples hold the largest finite float afterwards. worklist: at least 3 × width × height + 1 numbers for
  * the call's own use; nothing is promised of what it holds afterwards. rows: three numbers a cluster, which are sum of x, sum of y and
  * count; as many whole rows as fit are written. total: how many clusters there are, also those whose rows did not fit.
  */

@@ -5,6 +5,7 @@ use crate::{Family, Quad, Refusal, Shape, Table, c};
 
 /// What a word shows.
 #[derive(Clone, Copy, PartialEq, Eq, Debug)]
+#[non_exhaustive]
 pub struct Found {
     /// The code's position in the table.
     pub id: usize,
@@ -14,6 +15,7 @@ pub struct Found {
 
 /// A tag that was read.
 #[derive(Clone, Copy, PartialEq, Debug)]
+#[non_exhaustive]
 pub struct Tag {
     /// The tag's number: its code's position in the table.
     pub id: usize,
@@ -58,12 +60,13 @@ impl Table<'_> {
     /// threshold. The border plays no part. Refusals 6, 13.
     ///
     /// ```
-    /// use muosleap::{Family, Found, Refusal};
+    /// use muosleap::{Family, Refusal};
     ///
     /// let table = Family::T16H5.table();
-    /// assert_eq!(table.best_tag(0x231B), Ok(Found { id: 0, turn: 0 }));
-    /// assert_eq!(table.best_tag(0x7D01), Ok(Found { id: 0, turn: 3 }));
-    /// assert_eq!(table.best_tag(0x231A), Err(Refusal::NoCode));
+    /// let read = |word: u64| table.best_tag(word).map(|found| (found.id, found.turn));
+    /// assert_eq!(read(0x231B), Ok((0, 0)));
+    /// assert_eq!(read(0x7D01), Ok((0, 3)));
+    /// assert_eq!(read(0x231A), Err(Refusal::NoCode));
     /// ```
     pub fn best_tag(&self, bits: u64) -> Result<Found, Refusal> {
         let (mut id, mut turn) = (0, 0);

@@ -78,7 +78,7 @@ pub struct Cluster {
 }
 
 impl Cluster {
-    /// Its centre. Refusal 15 where a sum or the count is too large, 2^24 or more, to be divided exactly.
+    /// Its centre. Refusal 15 where a sum or the count is too large, 2^24 or more, to be divided exactly, or the count is 0.
     ///
     /// ```
     /// use muosleap::{Cluster, Point, Refusal};
@@ -133,7 +133,8 @@ pub fn init_saddle_clusters(
     Ok(total)
 }
 
-/// From picture to clusters, with the buffers for one picture size. They are kept, so later pictures need no memory of their own.
+/// From picture to clusters, with the buffers for one picture size. They are made once and kept: [`Saddles::find`] takes no memory,
+/// however many pictures there are and whatever they show.
 ///
 /// ```
 /// use muosleap::{Shape, image_util::{Saddles, kernel}};
@@ -142,9 +143,9 @@ pub fn init_saddle_clusters(
 /// let shape = Shape { width: 32, height: 32 };
 /// let picture: Vec<f32> = (0..32 * 32).map(|i| ((i % 32 < 16) == (i / 32 < 16)) as u8 as f32).collect();
 /// let mut saddles = Saddles::new(shape);
-/// let clusters = saddles.find(&picture, &kernel(1.5))?;
+/// let mut clusters = saddles.find(&picture, &kernel(1.5))?;
 /// assert_eq!(clusters.len(), 1);
-/// let center = clusters[0].center()?;
+/// let center = clusters.next().unwrap().center()?;
 /// assert_eq!((center.x, center.y), (15.5, 15.5));
 /// # Ok::<(), muosleap::Refusal>(())
 /// ```
@@ -161,19 +162,20 @@ impl Saddles {
     /// Buffers for pictures of these sides.
     pub fn new(shape: Shape) -> Saddles {
         let plane = vec![0.0; shape.len()];
-        // Each cluster has a sample of its own with no other cluster's beside it, so there is at most one to two samples.
+        // Each cluster has a sample of its own with no other cluster's beside it, so there is at most one for every two samples.
         let rows = vec![[0; 3]; shape.len().div_ceil(2)];
         let worklist = vec![0; worklist_len(shape)];
         Saddles { shape, blurred: plane.clone(), response: plane, worklist, rows }
     }
 
-    /// The clusters of a picture of samples from 0.0 to 1.0: blur, response, threshold, clusters. Refusals 1, 2, 3.
-    pub fn find(&mut self, img: &[f32], weights: &[f32]) -> Result<Vec<Cluster>, Refusal> {
+    /// The clusters of a picture of samples from 0.0 to 1.0: blur, response, threshold, clusters. They are handed out one by one,
+    /// from the buffers; neither picture nor weights are borrowed for longer than the call. Refusals 1, 2, 3.
+    pub fn find(&mut self, img: &[f32], weights: &[f32]) -> Result<impl ExactSizeIterator<Item = Cluster> + use<'_>, Refusal> {
         gaussian_blur_f32(img, self.shape, weights, &mut self.response, &mut self.blurred)?;
         hessian_response(&self.blurred, self.shape, &mut self.response)?;
         let threshold = response_threshold(&self.response, self.shape)?;
         let total = init_saddle_clusters(&mut self.response, self.shape, threshold, &mut self.worklist, &mut self.rows)?;
-        Ok(self.rows[..total].iter().map(|&row| row.into()).collect())
+        Ok(self.rows[..total].iter().map(|&row| row.into()))
     }
 
     /// The blurred picture of the last call of [`Saddles::find`].

@@ -1,132 +1,112 @@
-//! The refusals: a name and a sentence for each number.
+//! The refusals. Each is written once, in the list below; the enum, its comments and its texts are made of it, and a test
+//! (tests/documents.rs) holds the tables in README.md and in include/muosleap.h to it.
 
 use std::{error::Error, fmt};
 
-/// Why a call was refused. A refused call has written nothing.
-///
-/// Its number is what the C functions answer and what a row of a list reading holds; shown as text it says what is wrong and what to do.
-///
-/// ```
-/// use muosleap::Refusal;
-///
-/// let refusal = Refusal::try_from(11).unwrap();
-/// assert_eq!(refusal, Refusal::LowContrast);
-/// assert_eq!(refusal.number(), 11);
-/// assert!(refusal.to_string().starts_with("refusal 11: too little contrast"));
-/// assert!(Refusal::try_from(17).is_err());
-/// ```
-#[derive(Clone, Copy, PartialEq, Eq, PartialOrd, Ord, Hash, Debug)]
-#[repr(u8)]
-pub enum Refusal {
-    /// 1: a plane side is 0 or above 4,096, or a plane's length is not width × height.
-    PlaneSize = 1,
-    /// 2: the weights are not an odd number from 1 to 15, or one is outside 0.0 to 1.0 or NaN.
-    Weights = 2,
-    /// 3: a sample is outside its range, or NaN.
-    SampleRange = 3,
-    /// 4: the threshold is infinite or NaN.
-    Threshold = 4,
-    /// 5: the worklist is shorter than 3 × width × height + 1.
-    Worklist = 5,
-    /// 6: the table is not one that can be searched.
-    BadTable = 6,
-    /// 7: the table fails the likeness check.
-    CodesAlike = 7,
-    /// 8: a corner coordinate is NaN or of magnitude 16,384 or more.
-    CornerRange = 8,
-    /// 9: a corner rounds outside the picture.
-    CornerOutside = 9,
-    /// 10: a sample rounds outside the picture.
-    SampleOutside = 10,
-    /// 11: greatest minus least level is below 50.
-    LowContrast = 11,
-    /// 12: there are more unsure modules than allowed.
-    UnsureModules = 12,
-    /// 13: no code is near in four turns.
-    NoCode = 13,
-    /// 14: the painting cannot be done as asked.
-    Painting = 14,
-    /// 15: no levels or more than 64, or sums or a count that have no exact centre.
-    Count = 15,
-    /// 16: the quad list or an output has the wrong length.
-    ListLength = 16,
+/// Writes out a list of refusals, each with its number, its name, what is wrong (in document 01's words) and what to do.
+macro_rules! refusals {
+    ($($number:literal $name:ident: $wrong:literal, $to_do:literal;)*) => {
+        /// Why a call was refused. A refused call has written nothing.
+        ///
+        /// Its number is what the C functions answer and what a row of a list reading holds; shown as text it says what is wrong and
+        /// what to do.
+        ///
+        /// ```
+        /// use muosleap::Refusal;
+        ///
+        /// let refusal = Refusal::try_from(11).unwrap();
+        /// assert_eq!(refusal, Refusal::LowContrast);
+        /// assert_eq!(refusal.number(), 11);
+        /// assert!(refusal.to_string().starts_with("refusal 11: greatest minus least level below 50; "));
+        /// assert!(Refusal::try_from(0).is_err());
+        /// ```
+        #[derive(Clone, Copy, PartialEq, Eq, PartialOrd, Ord, Hash, Debug)]
+        #[non_exhaustive]
+        #[repr(u8)]
+        pub enum Refusal {
+            $(#[doc = concat!($number, ": ", $wrong, ".")] $name = $number,)*
+        }
+
+        /// The refusals in the order of their numbers.
+        pub const REFUSALS: &[Refusal] = &[$(Refusal::$name),*];
+
+        impl Refusal {
+            /// What is wrong.
+            pub const fn reason(self) -> &'static str {
+                match self {
+                    $(Refusal::$name => $wrong,)*
+                }
+            }
+
+            /// What to do about it.
+            pub const fn advice(self) -> &'static str {
+                match self {
+                    $(Refusal::$name => $to_do,)*
+                }
+            }
+        }
+    };
 }
 
-use Refusal::*;
-
-/// The refusals in the order of their numbers.
-pub const REFUSALS: [Refusal; 16] = [
-    PlaneSize,
-    Weights,
-    SampleRange,
-    Threshold,
-    Worklist,
-    BadTable,
-    CodesAlike,
-    CornerRange,
-    CornerOutside,
-    SampleOutside,
-    LowContrast,
-    UnsureModules,
-    NoCode,
-    Painting,
-    Count,
-    ListLength,
-];
+refusals! {
+    1 PlaneSize:
+        "a plane side is 0 or above 4,096, or a plane's length is not width × height",
+        "give each plane its own sides";
+    2 Weights:
+        "weights not an odd number from 1 to 15, or one outside 0.0 to 1.0 or NaN",
+        "mend the kernel: sigma is 3.5 at most";
+    3 SampleRange:
+        "a sample to be blurred outside 0.0 to 1.0, a sample lent to the response, threshold or clusters of magnitude above 65,536, \
+         or NaN in any of them",
+        "scale the picture to 0.0 to 1.0 (samples of 0 to 255 can give responses above 65,536); make a clustered response anew";
+    4 Threshold:
+        "threshold infinite or NaN",
+        "take it from `response_threshold`";
+    5 Worklist:
+        "worklist shorter than 3 × width × height + 1",
+        "lend a longer one";
+    6 BadTable:
+        "table with edge outside 1..8, border outside 1..4, no code or above 1,024 codes, match threshold outside 1..64, or a code \
+         of 2^(edge²) or more; or no such family",
+        "mend the code list, or the family's number";
+    7 CodesAlike:
+        "the table fails the likeness check",
+        "choose other codes: a sheet of these could be read in two ways";
+    8 CornerRange:
+        "a corner coordinate is NaN or of magnitude 16,384 or more",
+        "mend the quad search";
+    9 CornerOutside:
+        "a corner rounds outside the picture",
+        "move the sheet, so that the whole tag is in view, or mend the quad search";
+    10 SampleOutside:
+        "a sample rounds outside the picture",
+        "move the sheet away from the picture's edge, or mend the quad search";
+    11 LowContrast:
+        "greatest minus least level below 50",
+        "clean the sheet or light it better, or no tag is there";
+    12 UnsureModules:
+        "more unsure modules than allowed",
+        "focus the camera, keep shadows off the tag, or clean it";
+    13 NoCode:
+        "no code near in four turns",
+        "check that the tag is one of this table, and clean or replace it";
+    14 Painting:
+        "painting word of 2^(edge²) or more, cell outside 1..64 pixels, turn above 3, light less than 50 above dark, or a tag that \
+         does not end at least one pixel before the right and lower edges",
+        "mend the print";
+    15 Count:
+        "no levels, or more than 64; for a centre, a sum or count of 2^24 or more, or a count of 0",
+        "lend 1 to 64 levels; leave such a cluster out";
+    16 ListLength:
+        "quad list not a multiple of 8 numbers or above 1,024 quads, or an output shorter than three numbers and eight corner \
+         numbers a quad",
+        "lend whole quads in lists of at most 1,024, and outputs that are long enough";
+}
 
 impl Refusal {
     /// The number that document 01 and the C interface give it.
     pub const fn number(self) -> u32 {
         self as u32
-    }
-
-    /// What is wrong.
-    pub const fn reason(self) -> &'static str {
-        match self {
-            PlaneSize => "the picture's size does not fit: sides are 1 to 4,096 pixels, and a plane holds width × height samples",
-            Weights => "the blur's weights do not fit: an odd number of them, at most 15, each from 0.0 to 1.0",
-            SampleRange => {
-                "a sample is out of range: 0.0 to 1.0 before the blur, at most 65,536 either way after it, and never NaN"
-            }
-            Threshold => "the cluster threshold is infinite or not a number",
-            Worklist => "the worklist is too short: it needs 3 × width × height + 1 entries",
-            BadTable => {
-                "the code table does not fit: edge 1 to 8, border 1 to 4, 1 to 1,024 codes within the square, match threshold 1 to 64"
-            }
-            CodesAlike => "the code table is ambiguous: codes are too much alike, in some turn, or nearly empty or full",
-            CornerRange => "a corner of the quad is not a usable number",
-            CornerOutside => "a corner of the quad lies outside the picture",
-            SampleOutside => "a module of the tag lies outside the picture",
-            LowContrast => "too little contrast: the tag's lightest and darkest modules are less than 50 apart",
-            UnsureModules => "too many modules are neither clearly light nor clearly dark",
-            NoCode => "no code of the table is near, however the tag is turned",
-            Painting => {
-                "the tag cannot be painted so: word, cell (1 to 64 pixels), turn (0 to 3), shades (50 apart) or place do not fit"
-            }
-            Count => "the number of levels or of samples does not fit: 1 to 64 levels; 1 or more samples with sums below 2^24",
-            ListLength => "the quad list or its outputs have the wrong length: at most 1,024 quads of eight numbers",
-        }
-    }
-
-    /// What to do about it.
-    pub const fn advice(self) -> &'static str {
-        match self {
-            PlaneSize => "check the camera's picture size in the host's settings",
-            Weights => "choose a smaller sigma, 3.5 at most",
-            SampleRange => "check that the host scales the picture to 0.0 to 1.0, and lend each response plane once only",
-            Threshold => "use the threshold that was worked out for this picture",
-            Worklist => "lend a longer worklist",
-            BadTable => "check the family, or the code list that was loaded",
-            CodesAlike => "have the maker of the code list remove or replace codes",
-            CornerRange | CornerOutside => "check the quad search; the whole tag has to be in view",
-            SampleOutside => "move the sheet away from the picture's edge",
-            LowContrast => "clean the sheet, or light it better",
-            UnsureModules => "focus the camera, avoid shadows across the tag, or clean it",
-            NoCode => "check that this sheet is of the family in use; clean or replace the tag",
-            Painting => "correct the painting's settings",
-            Count => "check what the host passes on",
-            ListLength => "read the quads in lists of at most 1,024, with outputs of three and eight numbers a quad",
-        }
     }
 }
 
@@ -134,8 +114,7 @@ impl TryFrom<u32> for Refusal {
     type Error = NoRefusal;
 
     fn try_from(number: u32) -> Result<Refusal, NoRefusal> {
-        let known = REFUSALS.into_iter().find(|refusal| refusal.number() == number);
-        known.ok_or(NoRefusal(number))
+        REFUSALS.iter().copied().find(|refusal| refusal.number() == number).ok_or(NoRefusal(number))
     }
 }
 

@@ -276,7 +276,7 @@ fn chain((width, height): (usize, usize), tally: &mut Tally) {
     for noise in [0, 1, 6, 20, 40] {
         let sheet = pictures::sheet(Shape { width, height }, noise, &mut numbers);
         let samples = image_util::to_unit(&sheet.pixels);
-        let ours = saddles.find(&samples, &image_util::kernel(1.5)).unwrap();
+        let ours: Vec<Cluster> = saddles.find(&samples, &image_util::kernel(1.5)).unwrap().collect();
         let plane = Plane { width, height, samples };
         let blurred = gaussian_blur_f32(&plane.image(), 1.5);
         tally.same_bits(saddles.blurred(), blurred.as_raw(), || format!("noise {noise}, {}", sides(&plane)));

@@ -110,8 +110,8 @@ fn painted(part: u64, tally: &mut Tally) {
         print_order.corners.reverse();
         for start in 0..4 {
             let read = family.try_decode_quad(&plane, shape, &quad.started(start));
-            let promised = Tag { id, turn: (4 - start as u8) % 4, corners: print_order };
-            tally.same(read, Ok(promised), input);
+            let promised = (id, (4 - start as u8) % 4, print_order);
+            tally.same(read.map(|tag| (tag.id, tag.turn, tag.corners)), Ok(promised), input);
         }
         let four: Vec<Quad> = (0..4).map(|start| quad.started(start)).collect();
         let alone: Vec<_> = four.iter().map(|quad| family.try_decode_quad(&plane, shape, quad)).collect();

@@ -2,7 +2,7 @@
 
 use crate::{FAMILY, SIDE};
 use muosleap::sheet::Sheet;
-use muosleap::{Quad, Refusal, Shape};
+use muosleap::{Point, Quad, Refusal, Shape};
 
 /// Tags with misprinted modules, and which. The family's match threshold is 3, so two are read as if there were none.
 pub const MISPRINTED: [(usize, u64); 2] = [(7, 1 << 20), (22, 1 << 3 | 1 << 30)];
@@ -22,7 +22,7 @@ pub struct Camera {
 }
 
 impl Camera {
-    /// Paints the sheet, smears a tag if one is named, and adds light and noise.
+    /// Paints the sheet, smears a tag of it if one is named, and adds light and noise.
     pub fn photograph(noise: usize, smear: Option<usize>) -> Result<Camera, Refusal> {
         let mut words = FAMILY.codes()[..SIDE * SIDE].to_vec();
         MISPRINTED.iter().for_each(|&(id, modules)| words[id] ^= modules);
@@ -34,17 +34,17 @@ impl Camera {
         }
         let quads = SHEET.paint(FAMILY, &words, &mut picture, SHAPE)?;
         let mut camera = Camera { shape: SHAPE, picture, quads };
-        if let Some(quad) = smear.and_then(|tag| camera.quads.get(tag).copied()) {
-            camera.smear(&quad);
+        if let Some(tag) = smear {
+            camera.smear(camera.quads[tag]);
         }
         camera.expose(noise);
         Ok(camera)
     }
 
     /// A grey smear across the middle of a tag.
-    fn smear(&mut self, quad: &Quad) {
-        let middle = |side: fn(&Quad, usize) -> f32| (0..4).map(|k| side(quad, k)).sum::<f32>() / 4.0;
-        let (x, y) = (middle(|quad, k| quad.corners[k].x), middle(|quad, k| quad.corners[k].y));
+    fn smear(&mut self, quad: Quad) {
+        let middle = |side: fn(Point) -> f32| quad.corners.map(side).iter().sum::<f32>() / 4.0;
+        let (x, y) = (middle(|corner| corner.x), middle(|corner| corner.y));
         for (place, pixel) in self.picture.iter_mut().enumerate() {
             let (dx, dy) = ((place % SHAPE.width) as f32 - x, (place / SHAPE.width) as f32 - y);
             if (dx + dy).abs() < 30.0 && (dx - dy).abs() < 75.0 {

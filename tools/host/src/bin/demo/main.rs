@@ -3,13 +3,15 @@
 
 mod camera;
 mod drawing;
+mod options;
 mod png;
 
 use camera::Camera;
 use muosleap::image_util::{Saddles, kernel, to_unit};
 use muosleap::{Family, Point, Quad, Refusal, Shape, Tag};
+use options::{Options, USAGE};
 use std::error::Error;
-use std::path::PathBuf;
+use std::process::ExitCode;
 use std::time::{Duration, Instant};
 
 /// The family on the sheet.
@@ -18,14 +20,32 @@ const FAMILY: Family = Family::T36H11;
 /// Tags in a row and in a column.
 const SIDE: usize = 6;
 
-fn main() -> Result<(), Box<dyn Error>> {
-    let options = Options::read()?;
+fn main() -> ExitCode {
+    let options = match Options::read(std::env::args_os().skip(1)) {
+        Ok(options) => options,
+        Err(wrong) => {
+            eprintln!("demo: {wrong}\n{USAGE}");
+            return ExitCode::from(2);
+        }
+    };
+    match run(&options) {
+        Ok(()) => ExitCode::SUCCESS,
+        Err(error) => {
+            eprintln!("demo: {error}");
+            ExitCode::FAILURE
+        }
+    }
+}
+
+fn run(options: &Options) -> Result<(), Box<dyn Error>> {
     let camera = Camera::photograph(options.noise, options.smear)?;
     let mut saddles = Saddles::new(camera.shape);
     let found = Found::read(&camera, &mut saddles)?;
-    print_summary(&options, &camera, &found);
+    print_summary(options, &camera, &found);
     print_table(&found.rows);
-    drawing::draw(&camera, &saddles, &found.quads, &found.rows).write(&camera, &options.folder)?;
+    let drawing = drawing::draw(&camera, &saddles, &found.quads, &found.rows);
+    let folder = &options.folder;
+    drawing.write(&camera, folder).map_err(|error| format!("cannot write to {}: {error}", folder.display()))?;
     Ok(())
 }
 
@@ -45,14 +65,14 @@ impl Found {
     fn read(camera: &Camera, saddles: &mut Saddles) -> Result<Found, Refusal> {
         let samples = to_unit(&camera.picture);
         let start = Instant::now();
-        let clusters = saddles.find(&samples, &kernel(1.5))?;
-        let clustered = start.elapsed();
-        let centers: Vec<Point> = clusters.iter().map(|cluster| cluster.center()).collect::<Result<_, _>>()?;
+        let found = saddles.find(&samples, &kernel(1.5))?;
+        let (clusters, clustered) = (found.len(), start.elapsed());
+        let centers: Vec<Point> = found.map(|cluster| cluster.center()).collect::<Result<_, _>>()?;
         let quads: Vec<Quad> = camera.quads.iter().map(|quad| near(quad, &centers)).collect();
         let starts: Vec<Quad> = quads.iter().flat_map(|&quad| (0..4).map(move |start| quad.started(start))).collect();
         let start = Instant::now();
         let rows = FAMILY.try_decode_quads(&camera.picture, camera.shape, &starts)?;
-        Ok(Found { clusters: clusters.len(), quads, rows, times: [clustered, start.elapsed()] })
+        Ok(Found { clusters, quads, rows, times: [clustered, start.elapsed()] })
     }
 }
 
@@ -67,30 +87,6 @@ fn print_summary(options: &Options, camera: &Camera, found: &Found) {
     println!("Picture to clusters: {} clusters in {clustered:.1} ms (blur, response, threshold, clusters).", found.clusters);
     println!("Each tag's corners are the cluster centres nearest to where they were painted, at most {away:.2} pixel away.");
     println!("Quads to tags: {} quads in {read:.2} ms, each tag from all four starts.\n", found.rows.len());
-}
-
-/// What the command line says.
-struct Options {
-    folder: PathBuf,
-    noise: usize,
-    smear: Option<usize>,
-}
-
-impl Options {
-    fn read() -> Result<Options, Box<dyn Error>> {
-        let mut options = Options { folder: PathBuf::from("target/demo"), noise: 6, smear: None };
-        let mut words = std::env::args().skip(1);
-        while let Some(word) = words.next() {
-            let mut number = || words.next().and_then(|word| word.parse().ok()).ok_or(format!("{word} takes a number"));
-            match word.as_str() {
-                "--noise" => options.noise = number()?,
-                "--smear" => options.smear = Some(number()?).filter(|&tag| tag < SIDE * SIDE),
-                _ if word.starts_with('-') => return Err("usage: demo [FOLDER] [--noise LEVELS] [--smear TAG]".into()),
-                folder => options.folder = PathBuf::from(folder),
-            }
-        }
-        Ok(options)
-    }
 }
 
 fn distance(p: Point, q: Point) -> f32 {
@@ -120,6 +116,7 @@ fn print_table(rows: &[Result<Tag, Refusal>]) {
         refusals.extend(four.iter().filter_map(|row| row.err()));
     }
     println!("  {} of {} rows read.", rows.iter().filter(|row| row.is_ok()).count(), rows.len());
+    refusals.sort();
     refusals.dedup();
     refusals.iter().for_each(|refusal| println!("  {refusal}"));
 }

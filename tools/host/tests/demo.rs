@@ -1,0 +1,65 @@
+//! The demo's command line: what it does not know is an error, and then nothing is written.
+
+use std::ffi::OsStr;
+use std::fs;
+use std::path::{Path, PathBuf};
+use std::process::{Command, Output};
+
+/// Runs the demo in an empty folder.
+fn demo(name: &str, words: &[&OsStr]) -> (PathBuf, Output) {
+    let folder = Path::new(env!("CARGO_TARGET_TMPDIR")).join(name);
+    let _ = fs::remove_dir_all(&folder);
+    fs::create_dir_all(&folder).unwrap();
+    let mut demo = Command::new(env!("CARGO_BIN_EXE_demo"));
+    let output = demo.current_dir(&folder).env_remove("DEMO_FOLDER").args(words).output().unwrap();
+    (folder, output)
+}
+
+#[test]
+fn a_bad_option_is_an_error() {
+    for (words, wrong) in [
+        ("--smear 99", "--smear takes a number from 0 to 35, not 99"),
+        ("--smear 36", "--smear takes a number from 0 to 35, not 36"),
+        ("--smear", "--smear takes a number from 0 to 35"),
+        ("--smear -1", "--smear takes a number from 0 to 35, not -1"),
+        ("--smear seven", "--smear takes a number from 0 to 35, not seven"),
+        ("--smear --noise 3", "--smear takes a number from 0 to 35, not --noise"),
+        ("--noise 256", "--noise takes a number from 0 to 255, not 256"),
+        ("--noise 99999999999999999999", "--noise takes a number from 0 to 255, not 99999999999999999999"),
+        ("out --noise", "--noise takes a number from 0 to 255"),
+        ("--noise 2.5", "--noise takes a number from 0 to 255, not 2.5"),
+        ("--smear=14", "there is no option --smear=14"),
+        ("--blur 3", "there is no option --blur"),
+        ("out --help", "there is no option --help"),
+        ("-", "there is no option -"),
+        ("out more", "more is one too many"),
+        ("--noise 3 out --noise 3", "--noise is one too many"),
+    ] {
+        let (folder, output) = demo("bad", &words.split(' ').map(OsStr::new).collect::<Vec<_>>());
+        let expected = format!("demo: {wrong}\nusage: demo [FOLDER] [--noise LEVELS] [--smear TAG]\n");
+        assert_eq!(String::from_utf8_lossy(&output.stderr), expected);
+        assert_eq!((output.status.code(), output.stdout.len()), (Some(2), 0), "{words}");
+        assert_eq!(fs::read_dir(folder).unwrap().count(), 0, "{words} wrote something");
+    }
+    assert_eq!(demo("bad", &[OsStr::new("")]).1.status.code(), Some(2));
+}
+
+#[test]
+fn good_options_are_followed() {
+    let (folder, output) = demo("good", &["--smear", "35", "out", "--noise", "0"].map(OsStr::new));
+    let told = String::from_utf8_lossy(&output.stdout);
+    assert!(output.status.success() && output.stderr.is_empty());
+    assert!(told.contains("140 of 144 rows read"), "{told}");
+    let mut written: Vec<_> = fs::read_dir(folder.join("out")).unwrap().map(|entry| entry.unwrap().file_name()).collect();
+    written.sort();
+    assert_eq!(written, ["marked.pgm", "marked.png", "sheet.pgm"]);
+    assert_eq!(fs::read_dir(folder).unwrap().count(), 1);
+}
+
+#[test]
+fn a_folder_that_cannot_be_written_is_an_error() {
+    let file = concat!(env!("CARGO_MANIFEST_DIR"), "/Cargo.toml");
+    let (_, output) = demo("file", &[file].map(OsStr::new));
+    assert_eq!(output.status.code(), Some(1));
+    assert!(String::from_utf8_lossy(&output.stderr).starts_with(&format!("demo: cannot write to {file}: ")));
+}
