@@ -1,4 +1,4 @@
--- The blur: "weights are lent. Across into a lent plane, then down, each sum starting at 0.0, weights in order, edges repeated."
+-- The blur: "weights are lent .. Across into a lent plane, then down, each sum starting at 0.0, weights in order, edges repeated."
 -- A plane is the list of its samples, row by row. Assumes nothing.
 use Prim.Native.Nat.{ℕ, zero, suc, _+_, _-_, _*_, _/_, _%_, min}
 use mathlib.Core.Bool.{Bool, not, _||_}

@@ -89,7 +89,7 @@ module _ (plane : List ℕ) (frame : Frame) (quads : List Float) (rows : List �
         let on = tested-on c (p .0) (p .1) (p .2) in
         record { good-frame = p .0; good-table = p .1; good-list = p .2; count = listing-count n (ap (λ (r : Listing). r .answer) on ∙ e); outcome = sym on }
 
-  -- "the same by family number, over the constant tables"
+  -- the same by family number
   pub in-is : (number : ℕ) → isFamily number ≡ true
       → decodeQuadsIn plane frame number quads rows corners ≡ decodeQuads plane frame (familyOf number) (codesOf number) quads rows corners
   unfolding decodeQuads decodeQuadsIn

@@ -39,7 +39,7 @@ paintTag plane frame edge border word print =
     (cond (badPrint frame edge border word print) (unpainted plane 14)
     (record { answer = accepted (printQuad edge border print); plane = painted frame edge border word print plane })))
 
--- the same by the number of a family, with its edge and border: "6 also for a family number that there is none of"
+-- the same by the number of a family, with its edge and border; 6 where there is no such family
 unfoldable pub paintTagIn : List ℕ → Frame → (family word : ℕ) → Print → Painting
 unfolding badFrame paintTag
 paintTagIn plane frame family word print =
