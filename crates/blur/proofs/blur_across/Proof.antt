@@ -6,12 +6,12 @@ use Prim.Native.Nat.{_+_, _-_, _*_, _≤_}
 use native.Mathlib.Omega.{arith}
 use Rattle.blur.specs.Blur.{acrossAt}
 use Rattle.blur.proofs.Lines.{across-row}
-use Rattle.lists.proofs.Rows.{Written, rows-none, rows-more, rows-all, row-fits, row-span, row-length}
+use Rattle.lists.proofs.Rows.{Filled, rows-none, rows-more, rows-all, row-fits, row-span, row-length}
 use Rattle.blur.proofs.blur_across.Statement.{statement}
 use Rattle.blur.proofs.blur_across.Tie as tie
 
 abbrev Inv-loop : tie.InvT-loop
-Inv-loop img width height weights temp₀ y₀ temp y = Written (acrossAt img width weights) width height y temp
+Inv-loop img width height weights temp₀ y₀ temp y = Filled (acrossAt img width weights) (width * height) (y * width) temp
 
 abbrev μ-loop : tie.MeasureT-loop
 μ-loop img width height weights temp₀ y₀ temp y = height - y
@@ -81,7 +81,7 @@ loop-again c =
     let w = a .width in
     let l = t .before .loop in
     let b = row-length (l .temp) w (l .y) _ (row-span w (l .y)) (omega (arith, fits t, l .inv .whole)) in
-    rows-more (acrossAt (now (a .img)) w (now (a .weights))) w (a .height) (l .y) _ (l .temp) (r .blur-row .last .0) (t .loop-test .taken) (row-span w (l .y))
+    rows-more (acrossAt (now (a .img)) w (now (a .weights))) w (a .height) (l .y) (l .temp) (r .blur-row .last .0) (t .loop-test .taken)
     (r .blur-row .ensures ∙ across-row (now (a .img)) (now (a .weights)) w (l .y) (St t .pre .0) _ _ b (row-span w (l .y)))
     (l .inv)
 

@@ -9,12 +9,12 @@ use lib.Ieee.{nan}
 use Rattle.lists.specs.Tab.{tabulate}
 use Rattle.blur.specs.Blur.{along, downAt}
 use Rattle.blur.proofs.Lines.{down-row}
-use Rattle.lists.proofs.Rows.{Written, rows-none, rows-more, rows-all, row-fits, row-span, row-length}
+use Rattle.lists.proofs.Rows.{Filled, rows-none, rows-more, rows-all, row-fits, row-span, row-length}
 use Rattle.blur.proofs.blur_down.Statement.{statement}
 use Rattle.blur.proofs.blur_down.Tie as tie
 
 abbrev Inv-loop : tie.InvT-loop
-Inv-loop img width height weights out₀ y₀ out y = Written (downAt img width height weights) width height y out
+Inv-loop img width height weights out₀ y₀ out y = Filled (downAt img width height weights) (width * height) (y * width) out
 
 abbrev μ-loop : tie.MeasureT-loop
 μ-loop img width height weights out₀ y₀ out y = height - y
@@ -71,7 +71,7 @@ loop-again c =
     let w = a .width in
     let l = t .before .loop in
     let b = row-length (l .out) w (l .y) _ (row-span w (l .y)) (fits t) in
-    rows-more (downAt (now (a .img)) w (a .height) (now (a .weights))) w (a .height) (l .y) _ (l .out) (r .blur-row-down .last .0) (t .loop-test .taken) (row-span w (l .y))
+    rows-more (downAt (now (a .img)) w (a .height) (now (a .weights))) w (a .height) (l .y) (l .out) (r .blur-row-down .last .0) (t .loop-test .taken)
     (r .blur-row-down .ensures
     ∙ ap (λ (n : ℕ). tabulate n (λ x. along (now (a .weights)) (a .height) (λ i. getD (now (a .img)) (i * n + x) nan) (l .y))) b
     ∙ down-row (now (a .img)) (now (a .weights)) w (l .y) (St t .pre .0) (a .height))

@@ -3,7 +3,7 @@ use borrow.Author.Needs.{needs}
 use denote.Ref.{now}
 use mathlib.Core.Path.{_≡_, refl, sym, ap, _∙_}
 use Prim.Native.Nat.{ℕ, _+_, _-_, _*_, _≤_, _<_}
-use native.Mathlib.Nat.{sub-zero, one-mul, mul-le-mul-right}
+use native.Mathlib.Nat.{sub-zero, one-mul, mul-comm, mul-le-mul-right}
 use native.Mathlib.Omega.{arith}
 use lib.ListN.{length, take, drop}
 use lib.Seq.{length-take-le}
@@ -11,20 +11,20 @@ use Rattle.lists.specs.Tab.{tabulate}
 use Rattle.samples.specs.Samples.{zeroF}
 use Rattle.response.specs.Response.{responseAt}
 use Rattle.response.proofs.Border.{first-end, last-end, border-row}
-use Rattle.lists.proofs.Part.{back}
-use Rattle.lists.proofs.Rows.{Written, rows-first, rows-more, rows-all, row-fits, row-span, row-length}
-use Rattle.response.proofs.Pairs.{rows-up-to, two-rows, pair-fits, pair-span, pair-length}
+use Rattle.lists.proofs.Part.{part-length, back}
+use Rattle.lists.proofs.Rows.{Filled, rows-first, rows-more, rows-up-to, rows-all, row-fits, row-span, row-length}
+use Rattle.response.proofs.Pairs.{two-rows, pair-fits}
 use Rattle.response.proofs.hessian_response.Statement.{statement}
 use Rattle.response.proofs.hessian_response.Tie as tie
 
 abbrev Inv-loop : tie.InvT-loop
-Inv-loop img width height out₀ last y₀ out y = (0 < y) × Written (responseAt img width height) width height y out
+Inv-loop img width height out₀ last y₀ out y = (0 < y) × Filled (responseAt img width height) (width * height) (y * width) out
 
 abbrev μ-loop : tie.MeasureT-loop
 μ-loop img width height out₀ last y₀ out y = height - y
 
 abbrev Inv-loop2 : tie.InvT-loop2
-Inv-loop2 img width height out₀ last y₀ out y = (0 < y) × Written (responseAt img width height) width height y out
+Inv-loop2 img width height out₀ last y₀ out y = (0 < y) × Filled (responseAt img width height) (width * height) (y * width) out
 
 abbrev μ-loop2 : tie.MeasureT-loop2
 μ-loop2 img width height out₀ last y₀ out y = height - y
@@ -40,7 +40,7 @@ fits : (c : tie.In-loop Inv-loop μ-loop Inv-loop2 μ-loop2) → let a = St (c .
 fits c = rw (c .before .loop .inv .1 .whole) (pair-fits (St (c .before) .args .width) (St (c .before) .args .height) (c .before .loop .y) (omega (arith, in-turn c)))
 
 wide : (c : tie.In-loop Inv-loop μ-loop Inv-loop2 μ-loop2) → let w = St (c .before) .args .width in length (take (c .before .loop .y * w + w + w - c .before .loop .y * w) (drop (c .before .loop .y * w) (c .before .loop .out))) ≡ w + w
-wide c = pair-length (c .before .loop .out) (St (c .before) .args .width) (c .before .loop .y) (fits c)
+wide c = let w = St (c .before) .args .width in part-length (c .before .loop .out) (c .before .loop .y * w) (c .before .loop .y * w + w + w) (w + w) (fits c) (omega arith)
 
 -- at the second loop's head the same, of row y
 abbrev St2 : tie.At-loop2 Inv-loop μ-loop Inv-loop2 μ-loop2 → tie.Start Inv-loop μ-loop Inv-loop2 μ-loop2
@@ -80,7 +80,7 @@ loop-holds c =
     let w = a .width in
     let n : length (take (w - 0) (now (a .out))) ≡ w = length-take-le (w - 0) (now (a .out)) (omega (arith, row-fits w (a .height) 0 (s .pre .1), s .pre .3)) ∙ sub-zero w in (
       omega arith,
-      rows-first (responseAt (now (a .img)) w (a .height)) w (a .height) (w - 0) (now (a .out)) (l .clear .last .0) (s .pre .1) (sub-zero w)
+      rows-first (responseAt (now (a .img)) w (a .height)) w (a .height) (now (a .out)) (l .clear .last .0) (s .pre .1)
           (l .clear .ensures ∙ ap (λ (k : ℕ). tabulate k (λ x. zeroF)) n ∙ border-row (now (a .img)) w (a .height) 0 (first-end (a .height) 0 refl))
           (s .pre .3),
     )
@@ -88,7 +88,7 @@ loop-holds c =
 add-loop : tie.Need-add-loop Inv-loop μ-loop Inv-loop2 μ-loop2
 add-loop c =
     let s = St c in
-    omega (arith, c .loop .inv .1 .low, mul-le-mul-right (s .args .height) (s .pre .0), one-mul (s .args .height), s .pre .2, s .good .0 .1)
+    omega (arith, c .loop .inv .1 .low, mul-le-mul-right (c .loop .y) (s .pre .0), one-mul (c .loop .y), mul-comm (s .args .width) (c .loop .y), s .pre .2, s .good .0 .1)
 
 mul-start : tie.Need-mul-start Inv-loop μ-loop Inv-loop2 μ-loop2
 mul-start c = omega (arith, fits c, c .before .loop .inv .1 .whole, St (c .before) .pre .2, St (c .before) .good .0 .0)
@@ -132,7 +132,7 @@ loop-again c =
     let a = St (t .before) .args in
     let l = t .before .loop in (
       omega arith,
-      rows-up-to (responseAt (now (a .img)) (a .width) (a .height)) (a .width) (a .height) (l .y) (l .y + 2) (a .width + a .width) _ (l .out) (r .inner-pair .last .0) (omega (arith, in-turn t)) (two-rows (a .width) (l .y)) (pair-span (a .width) (l .y))
+      rows-up-to (responseAt (now (a .img)) (a .width) (a .height)) (a .width) (a .height) (l .y) (l .y + 2) (a .width + a .width) (l .y * a .width + a .width + a .width) (l .out) (r .inner-pair .last .0) (omega (arith, in-turn t)) (omega arith) (two-rows (a .width) (l .y))
           (r .inner-pair .ensures) (l .inv .1),
     )
 
@@ -180,7 +180,7 @@ loop2-again c =
     let l = t .before .loop2 in
     let b : l .y < a .height = omega (arith, in-turn2 t) in (
       omega arith,
-      rows-more (responseAt (now (a .img)) (a .width) (a .height)) (a .width) (a .height) (l .y) _ (l .out) (r .inner-row .last .0) b (row-span (a .width) (l .y))
+      rows-more (responseAt (now (a .img)) (a .width) (a .height)) (a .width) (a .height) (l .y) (l .out) (r .inner-row .last .0) b
           (r .inner-row .ensures ∙ ap (λ (n : ℕ). tabulate n (λ x. responseAt (now (a .img)) n (a .height) (l .y * n + x))) (wide2 (t .before) b))
           (l .inv .1),
     )
@@ -214,13 +214,13 @@ clear-requires-2 c κs = search needs
 
 -- the last row is written
 whole : (c : tie.After-clear2 Inv-loop μ-loop Inv-loop2 μ-loop2) → let t = c .before .before in let l = t .before .before in let a = St2 l .args in
-    Written (responseAt (now (a .img)) (a .width) (a .height)) (a .width) (a .height) (l .loop2 .y + 1) (back (l .loop2 .out) (l .loop2 .y * a .width) (l .loop2 .y * a .width + a .width - l .loop2 .y * a .width) (c .clear2 .last .0))
+    Filled (responseAt (now (a .img)) (a .width) (a .height)) (a .width * a .height) ((l .loop2 .y + 1) * a .width) (back (l .loop2 .out) (l .loop2 .y * a .width) (l .loop2 .y * a .width + a .width - l .loop2 .y * a .width) (c .clear2 .last .0))
 whole c =
     let t = c .before .before in
     let l = t .before .before in
     let a = St2 l .args in
     let e : l .loop2 .y + 1 ≡ a .height = omega (arith, t .if1 .taken, t .before .loop2-test .left) in
-    rows-more (responseAt (now (a .img)) (a .width) (a .height)) (a .width) (a .height) (l .loop2 .y) _ (l .loop2 .out) (c .clear2 .last .0) (t .if1 .taken) (row-span (a .width) (l .loop2 .y))
+    rows-more (responseAt (now (a .img)) (a .width) (a .height)) (a .width) (a .height) (l .loop2 .y) (l .loop2 .out) (c .clear2 .last .0) (t .if1 .taken)
     (c .clear2 .ensures ∙ ap (λ (k : ℕ). tabulate k (λ x. zeroF)) (wide2 l (t .if1 .taken)) ∙ border-row (now (a .img)) (a .width) (a .height) (l .loop2 .y) (last-end (a .height) (l .loop2 .y) e))
     (l .loop2 .inv .1)
 
