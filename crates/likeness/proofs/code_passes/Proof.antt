@@ -1,13 +1,9 @@
 -- The tests of one code in turn. Assumes nothing.
-use mathlib.Core.Path.{_≡_, sym, _∙_}
-use mathlib.Core.Bool.{Bool, false}
-use mathlib.Core.List.{List}
-use Prim.Native.Nat.{ℕ}
+use mathlib.Core.Path.{sym, _∙_}
 use native.Mathlib.Omega.{arith}
 use borrow.Author.Needs.{needs}
 use borrow.Author.Tests.{not-true, not-false}
-use Rattle.tables.specs.Table.{badCodes}
-use Rattle.tables.proofs.Table.{Codes, good-codes}
+use Rattle.tables.proofs.Table.{good-codes}
 use Rattle.likeness.proofs.Tested.{not-mixed, near-itself, tested}
 use Rattle.likeness.proofs.code_passes.Statement.{statement}
 use Rattle.likeness.proofs.code_passes.Tie as tie

@@ -1,5 +1,4 @@
 -- Each comparison is the definition's. Assumes nothing.
-use mathlib.Core.Path.{sym}
 use Rattle.likeness.specs.Turned.{farFrom}
 use borrow.Author.Needs.{needs}
 use Rattle.likeness.proofs.far_from.Statement.{statement}

@@ -1,8 +1,7 @@
 -- Assumes nothing.
-use mathlib.Core.Path.{refl, sym, ap, _∙_}
+use mathlib.Core.Path.{refl, ap, _∙_}
 use borrow.Author.Needs.{needs}
 use Rattle.word.specs.Word.{turn, turns}
-use Rattle.likeness.specs.Turned.{FourTurns}
 use Rattle.likeness.proofs.turns_of.Statement.{statement}
 use Rattle.likeness.proofs.turns_of.Tie as tie
 

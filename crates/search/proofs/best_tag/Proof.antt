@@ -4,10 +4,9 @@ use mathlib.Core.List.{List}
 use Prim.Native.Nat.{ℕ, suc, _+_, _-_, _≤_, _<_}
 use native.Mathlib.Numerals.{add-one}
 use native.Mathlib.Omega.{arith}
-use borrow.Author.Needs.{needs}
-use Rattle.refusals.specs.Outcome.{Outcome, accepted}
+use Rattle.refusals.specs.Outcome.{accepted}
 use Rattle.word.specs.Word.{turn}
-use Rattle.search.specs.Search.{fewest, firstAt, Seen, searchFrom, search}
+use Rattle.search.specs.Search.{fewest, firstAt, searchFrom, search}
 use Rattle.search.specs.declared.Best.{Best}
 use Rattle.search.proofs.Search.{hit, miss, none-left}
 use Rattle.search.proofs.best_tag.Statement.{statement}
