@@ -8,7 +8,7 @@ use native.Mathlib.Omega.{arith}
 use borrow.Author.Tests.{lt-ltb}
 use lib.Ieee.{Float}
 use lib.ListN.{length, getD, take}
-use Rattle.lists.proofs.All.{or-left, or-right}
+use Rattle.lists.proofs.Bools.{or-left, or-right}
 use Rattle.refusals.specs.Outcome.{Outcome, accepted, refused, Done}
 use Rattle.refusals.specs.Plane.{badFrame}
 use Rattle.refusals.specs.declared.Frame.{Frame}

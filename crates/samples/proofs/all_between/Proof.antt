@@ -7,8 +7,8 @@ use Prim.Native.Nat.{_≤_, _-_}
 use lib.ListN.{length, drop}
 use lib.Ieee.{nan}
 use Rattle.lists.specs.Tab.{all}
+use Rattle.lists.proofs.All.{gather-more, gather-done}
 use Rattle.samples.specs.Samples.{between}
-use Rattle.samples.proofs.Gather.{gather-more, gather-all}
 use Rattle.samples.proofs.all_between.Statement.{statement}
 use Rattle.samples.proofs.all_between.Tie as tie
 
@@ -39,13 +39,13 @@ loop-again c =
     let t = c .before in
     let l = t .before .loop in
     let a = t .before .before .args in
-    (search needs, gather-more (between (a .low) (a .high)) (now (a .samples)) (l .i) (l .good) nan (t .loop-test .taken) (l .inv .1))
+    (search needs, gather-more (between (a .low) (a .high)) (now (a .samples)) (l .i) nan (t .loop-test .taken) (l .good) _ refl (l .inv .1))
 
 returns : tie.Need-returns Inv-loop μ-loop
 returns c =
     let l = c .before .loop in
     let a = c .before .before .args in
-    gather-all (between (a .low) (a .high)) (now (a .samples)) (l .i) (l .good) (c .loop-test .left) (l .inv .1)
+    gather-done (between (a .low) (a .high)) (now (a .samples)) (l .i) (c .loop-test .left) (l .good) (l .inv .1)
 
 pub all-between-spec : {M : Type 1} → statement M
 all-between-spec =
