@@ -40,12 +40,6 @@ add-end c = omega (arith, fits c, c .before .loop .inv .whole, St c .pre .1, St 
 mul-blur-row-down : tie.Need-mul-blur-row-down Inv-loop μ-loop
 mul-blur-row-down c = omega (arith, fits c, c .before .loop .inv .whole, St c .pre .1, St c .good .0 .1)
 
-sub-blur-row-down : tie.Need-sub-blur-row-down Inv-loop μ-loop
-sub-blur-row-down c = search needs
-
-part-blur-row-down-start : tie.Need-part-blur-row-down-start Inv-loop μ-loop
-part-blur-row-down-start c = search needs
-
 part-blur-row-down-end : tie.Need-part-blur-row-down-end Inv-loop μ-loop
 part-blur-row-down-end c = omega (arith, fits c)
 
@@ -56,12 +50,6 @@ blur-row-down-requires c κs =
     let w = s .args .width in
     let b = row-length (t .before .loop .out) w (t .before .loop .y) _ (row-span w (t .before .loop .y)) (fits t) in
     (omega (arith, b, s .pre .0), t .loop-test .taken, s .pre .1 ∙ ap (λ (n : ℕ). n * s .args .height) (sym b), s .pre .3, s .pre .4)
-
-add-y : tie.Need-add-y Inv-loop μ-loop
-add-y c = search needs
-
-loop-less : tie.Need-loop-less Inv-loop μ-loop
-loop-less c = search needs
 
 loop-again : tie.Need-loop-again Inv-loop μ-loop
 loop-again c =
@@ -96,12 +84,12 @@ blur-down-spec =
     mul-start
     add-end
     mul-blur-row-down
-    sub-blur-row-down
-    part-blur-row-down-start
+    (λ c. search needs)  -- sub-blur-row-down
+    (λ c. search needs)  -- part-blur-row-down-start
     part-blur-row-down-end
     blur-row-down-requires
-    add-y
-    loop-less
+    (λ c. search needs)  -- add-y
+    (λ c. search needs)  -- loop-less
     loop-again
     same-length
     returns)

@@ -55,22 +55,10 @@ in-turn2 c = omega (arith, c .loop2-test .taken)
 wide2 : (c : tie.At-loop2 Inv-loop μ-loop Inv-loop2 μ-loop2) (b : c .loop2 .y < St2 c .args .height) → length (take (c .loop2 .y * St2 c .args .width + St2 c .args .width - c .loop2 .y * St2 c .args .width) (drop (c .loop2 .y * St2 c .args .width) (c .loop2 .out))) ≡ St2 c .args .width
 wide2 c b = row-length (c .loop2 .out) (St2 c .args .width) (c .loop2 .y) _ (row-span (St2 c .args .width) (c .loop2 .y)) (fits2 c b)
 
-sub-clear : tie.Need-sub-clear Inv-loop μ-loop Inv-loop2 μ-loop2
-sub-clear c = search needs
-
-part-clear-start : tie.Need-part-clear-start Inv-loop μ-loop Inv-loop2 μ-loop2
-part-clear-start c = search needs
-
 part-clear-end : tie.Need-part-clear-end Inv-loop μ-loop Inv-loop2 μ-loop2
 part-clear-end c =
     let s = c .before .before in
     omega (arith, row-fits (s .args .width) (s .args .height) 0 (s .pre .1), s .pre .3)
-
-clear-requires : tie.Need-clear-requires Inv-loop μ-loop Inv-loop2 μ-loop2
-clear-requires c κs = search needs
-
-sub-last : tie.Need-sub-last Inv-loop μ-loop Inv-loop2 μ-loop2
-sub-last c = search needs
 
 loop-holds : tie.Need-loop-holds Inv-loop μ-loop Inv-loop2 μ-loop2
 loop-holds c =
@@ -101,12 +89,6 @@ add-end-2 c = omega (arith, fits c, c .before .loop .inv .1 .whole, St (c .befor
 
 mul-inner-pair : tie.Need-mul-inner-pair Inv-loop μ-loop Inv-loop2 μ-loop2
 mul-inner-pair c = omega (arith, fits c, c .before .loop .inv .1 .whole, St (c .before) .pre .2, St (c .before) .good .0 .1)
-
-sub-inner-pair : tie.Need-sub-inner-pair Inv-loop μ-loop Inv-loop2 μ-loop2
-sub-inner-pair c = omega arith
-
-part-inner-pair-start : tie.Need-part-inner-pair-start Inv-loop μ-loop Inv-loop2 μ-loop2
-part-inner-pair-start c = omega arith
 
 part-inner-pair-end : tie.Need-part-inner-pair-end Inv-loop μ-loop Inv-loop2 μ-loop2
 part-inner-pair-end c = fits c
@@ -148,12 +130,6 @@ add-end-3 c = omega (arith, fits2 (c .before) (omega (arith, in-turn2 c)), c .be
 mul-inner-row : tie.Need-mul-inner-row Inv-loop μ-loop Inv-loop2 μ-loop2
 mul-inner-row c = omega (arith, fits2 (c .before) (omega (arith, in-turn2 c)), c .before .loop2 .inv .1 .whole, St2 (c .before) .pre .2, St2 (c .before) .good .0 .1)
 
-sub-inner-row : tie.Need-sub-inner-row Inv-loop μ-loop Inv-loop2 μ-loop2
-sub-inner-row c = search needs
-
-part-inner-row-start : tie.Need-part-inner-row-start Inv-loop μ-loop Inv-loop2 μ-loop2
-part-inner-row-start c = search needs
-
 part-inner-row-end : tie.Need-part-inner-row-end Inv-loop μ-loop Inv-loop2 μ-loop2
 part-inner-row-end c = omega (arith, fits2 (c .before) (omega (arith, in-turn2 c)))
 
@@ -163,9 +139,6 @@ inner-row-requires c κs =
     let s = St2 (t .before) in
     let b = wide2 (t .before) (omega (arith, in-turn2 t)) in
     (omega (arith, b, s .pre .0), t .before .loop2 .inv .0, in-turn2 t, s .pre .2 ∙ ap (λ (n : ℕ). n * s .args .height) (sym b))
-
-add-y-2 : tie.Need-add-y-2 Inv-loop μ-loop Inv-loop2 μ-loop2
-add-y-2 c = search needs
 
 loop2-less : tie.Need-loop2-less Inv-loop μ-loop Inv-loop2 μ-loop2
 loop2-less c =
@@ -200,17 +173,8 @@ mul-clear c =
     let l = c .before .before in
     omega (arith, fits2 l (c .if1 .taken), l .loop2 .inv .1 .whole, St2 l .pre .2, St2 l .good .0 .1)
 
-sub-clear-2 : tie.Need-sub-clear-2 Inv-loop μ-loop Inv-loop2 μ-loop2
-sub-clear-2 c = search needs
-
-part-clear-start-2 : tie.Need-part-clear-start-2 Inv-loop μ-loop Inv-loop2 μ-loop2
-part-clear-start-2 c = search needs
-
 part-clear-end-2 : tie.Need-part-clear-end-2 Inv-loop μ-loop Inv-loop2 μ-loop2
 part-clear-end-2 c = omega (arith, fits2 (c .before .before) (c .if1 .taken))
-
-clear-requires-2 : tie.Need-clear-requires-2 Inv-loop μ-loop Inv-loop2 μ-loop2
-clear-requires-2 c κs = search needs
 
 -- the last row is written
 whole : (c : tie.After-clear2 Inv-loop μ-loop Inv-loop2 μ-loop2) → let t = c .before .before in let l = t .before .before in let a = St2 l .args in
@@ -256,19 +220,19 @@ hessian-response-spec =
     μ-loop
     Inv-loop2
     μ-loop2
-    sub-clear
-    part-clear-start
+    (λ c. search needs)  -- sub-clear
+    (λ c. search needs)  -- part-clear-start
     part-clear-end
-    clear-requires
-    sub-last
+    (λ c κs. search needs)  -- clear-requires
+    (λ c. search needs)  -- sub-last
     loop-holds
     add-loop
     mul-start
     add-end
     add-end-2
     mul-inner-pair
-    sub-inner-pair
-    part-inner-pair-start
+    (λ c. omega arith)  -- sub-inner-pair
+    (λ c. omega arith)  -- part-inner-pair-start
     part-inner-pair-end
     inner-pair-requires
     add-y
@@ -278,20 +242,20 @@ hessian-response-spec =
     mul-start-2
     add-end-3
     mul-inner-row
-    sub-inner-row
-    part-inner-row-start
+    (λ c. search needs)  -- sub-inner-row
+    (λ c. search needs)  -- part-inner-row-start
     part-inner-row-end
     inner-row-requires
-    add-y-2
+    (λ c. search needs)  -- add-y-2
     loop2-less
     loop2-again
     mul-start-3
     add-end-4
     mul-clear
-    sub-clear-2
-    part-clear-start-2
+    (λ c. search needs)  -- sub-clear-2
+    (λ c. search needs)  -- part-clear-start-2
     part-clear-end-2
-    clear-requires-2
+    (λ c κs. search needs)  -- clear-requires-2
     same-length
     returns
     same-length-2
