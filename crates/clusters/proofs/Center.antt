@@ -4,7 +4,7 @@ use mathlib.Core.Bool.{Bool, false, _||_}
 use Prim.Native.Nat.{ℕ, _^_, _<_}
 use lib.Dec.{leb, eqb}
 use borrow.Author.Tests.{leb-false}
-use Rattle.lists.proofs.All.{or-left, or-right}
+use Rattle.lists.proofs.Bools.{or-left, or-right}
 use Rattle.clusters.specs.Center.{badCenter}
 
 pub record Small (sumX sumY count : ℕ) : Type 0 where

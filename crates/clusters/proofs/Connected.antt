@@ -9,8 +9,8 @@ use native.Mathlib.Decide.{decLt}
 use native.Mathlib.Omega.{arith}
 use lib.ListN.{length, List·getD-eq-default}
 use lib.Ieee.{Float, nan, lt}
+use Rattle.lists.proofs.Bools.{and-parts, same-test, test}
 use Rattle.clusters.specs.Connected.{below, connected}
-use Rattle.clusters.proofs.Bools.{and-true, same-test, test}
 use Rattle.clusters.proofs.Joined.{Joined, joined-trans, joined-sym, reach-joined, joined-reach}
 
 -- no place past the plane's end is below the threshold
@@ -42,7 +42,7 @@ module _ (t : Float) (w : ℕ) (pos : 0 < w) (plane : List Float) where
       (λ a. joined-connected r i (joined-trans (joined-sym j) (connected-joined s i a)))
       (λ a. joined-connected s i (joined-trans j (connected-joined r i a)))))
       (λ h. inr (λ i. ⊎-elim
-      (λ b. let q = and-true (C s i) (C r i) b in
+      (λ b. let q = and-parts (C s i) (C r i) b in
       absurd (true≢false (sym (joined-connected s r (joined-trans (connected-joined s i (q .0)) (joined-sym (connected-joined r i (q .1))))) ∙ h)))
       (λ b. b)
       (test (C s i && C r i))))

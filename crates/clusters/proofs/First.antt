@@ -1,16 +1,17 @@
 -- Each cluster has exactly one first seed, so it has one row and counts once. Assumes nothing.
 use mathlib.Core.Path.{_≡_, sym, ap, _∙_}
 use mathlib.Core.Logic.{_⊎_, inl, inr, ⊎-elim}
-use mathlib.Core.Bool.{Bool, true, false, not, _&&_, true≢false}
+use mathlib.Core.Bool.{Bool, true, not, _&&_, true≢false}
+use mathlib.Mathlib.Data.Bool.Basic.{and-intro}
 use mathlib.Core.List.{List}
 use Prim.Native.Nat.{ℕ, zero, suc, _<_}
 use native.Mathlib.Nat.{not-suc-le-zero}
 use native.Mathlib.Decide.{decLt}
 use native.Mathlib.Omega.{arith}
 use lib.Ieee.{Float}
+use Rattle.lists.proofs.Bools.{and-parts, test}
 use Rattle.clusters.specs.Connected.{below, connected}
 use Rattle.clusters.specs.Clusters.{border, seed, clustered, first}
-use Rattle.clusters.proofs.Bools.{and-true, and-both, test}
 use Rattle.clusters.proofs.Any.{any-found, any-from}
 use Rattle.clusters.proofs.Joined.{here, joined-trans, joined-sym}
 use Rattle.clusters.proofs.Connected.{connected-joined, joined-connected}
@@ -21,13 +22,13 @@ module _ (t : Float) (w h : ℕ) (pos : 0 < w) (plane : List Float) where
 
   parts : (s : ℕ) → first t w h plane s ≡ true → (seed t w h plane s ≡ true) × (not (clustered t w h plane s s) ≡ true)
   unfolding first
-  parts s e = and-true _ _ e
+  parts s e = and-parts _ _ e
 
   -- a first seed is joined to no seed before it
   none-before : (r s : ℕ) → seed t w h plane r ≡ true → first t w h plane s ≡ true → C r s ≡ true → r < s → ⊥
   unfolding clustered
   none-before r s d e c l =
-      true≢false (sym (parts s e .1) ∙ ap not (any-found s r (λ k. seed t w h plane k && C k s) l (and-both _ _ d c)))
+      true≢false (sym (parts s e .1) ∙ ap not (any-found s r (λ k. seed t w h plane k && C k s) l (and-intro d c)))
 
   pub first-once : (r s : ℕ) → first t w h plane r ≡ true → first t w h plane s ≡ true → C r s ≡ true → r ≡ s
   first-once r s d e c =
@@ -41,7 +42,7 @@ module _ (t : Float) (w h : ℕ) (pos : 0 < w) (plane : List Float) where
 
   low : (s : ℕ) → seed t w h plane s ≡ true → below t plane s ≡ true
   unfolding seed
-  low s d = and-true (not (border w h s)) (below t plane s) d .1
+  low s d = and-parts (not (border w h s)) (below t plane s) d .1
 
   -- a seed is the first of its cluster, or there is one before it
   earlier : (s : ℕ) → seed t w h plane s ≡ true → (first t w h plane s ≡ true) ⊎ ((r : ℕ) × (r < s) × (seed t w h plane r ≡ true) × (C r s ≡ true))
@@ -50,9 +51,9 @@ module _ (t : Float) (w h : ℕ) (pos : 0 < w) (plane : List Float) where
       ⊎-elim
       (λ c.
       let q = any-from s (λ k. seed t w h plane k && C k s) c in
-      let e = and-true (seed t w h plane (q .0)) (C (q .0) s) (q .2) in
+      let e = and-parts (seed t w h plane (q .0)) (C (q .0) s) (q .2) in
       inr (q .0, q .1, e .0, e .1))
-      (λ c. inl (and-both _ _ d (ap not c)))
+      (λ c. inl (and-intro d (ap not c)))
       (test (clustered t w h plane s s))
 
   abbrev Found : ℕ → Type 0

@@ -2,21 +2,22 @@
 -- before it are marked, since two connected sets that share no sample do not touch each other. Assumes nothing.
 use mathlib.Core.Path.{_≡_, refl, sym, ap, _∙_, subst}
 use mathlib.Core.Logic.{_⊎_, inl, inr, ⊎-elim}
-use mathlib.Core.Bool.{Bool, true, false, not, _&&_, _||_, cond, true≢false, false≢true}
+use mathlib.Core.Bool.{Bool, true, false, not, _&&_, _||_, cond, or-false, true≢false, false≢true}
+use mathlib.Mathlib.Data.Bool.Basic.{and-intro, or-inl}
 use mathlib.Core.List.{List, [], _∷_, _++_, append-nil}
-use Prim.Native.Nat.{ℕ, zero, suc, _+_, _-_, _%_, _/_, _≤_, _<_}
+use Prim.Native.Nat.{ℕ, zero, suc, _+_, _%_, _/_, _≤_, _<_}
 use native.Mathlib.Nat.{add-zero, add-suc}
 use native.Mathlib.Omega.{arith}
 use lib.ListN.{length, getD, length-append}
 use lib.Seq.{ext-getD}
 use lib.Ieee.{Float, nan, lt}
 use Rattle.lists.specs.Tab.{tabulate}
+use Rattle.lists.proofs.Bools.{and-parts, and-not-left, and-not-right, or-cases, same-test, test, overlay}
 use Rattle.lists.proofs.Tab.{length-tabulate, getD-tabulate}
 use Rattle.clusters.specs.declared.Row.{Row}
 use Rattle.clusters.specs.Connected.{below, connected}
 use Rattle.clusters.specs.Clusters.{border, any, maxF32, sumOver, rowOf, written, seed, clustered, first, rowsOf, marked, Found, foundBefore}
 use Rattle.clusters.specs.Walk.{erased, put}
-use Rattle.clusters.proofs.Bools.{and-true, and-both, and-left, and-right, or-true, or-left, same-test, test}
 use Rattle.clusters.proofs.Any.{any-found, any-from}
 use Rattle.clusters.proofs.Members.{setSum, set-sum-same}
 use Rattle.clusters.proofs.Joined.{Joined, here, step, joined-trans, joined-sym, joined-more}
@@ -26,10 +27,6 @@ use Rattle.clusters.proofs.Rows.{written-more}
 found-path : {a a′ : List Float} {b b′ : List ℕ} {c c′ : ℕ} → a ≡ a′ → b ≡ b′ → c ≡ c′
     → _≡_ {A = Found} (record { plane = a; rows = b; total = c }) (record { plane = a′; rows = b′; total = c′ })
 found-path x y z = λ j. record { plane = x j; rows = y j; total = z j }
-
-or-false : (a : Bool) → a || false ≡ a
-or-false true = refl
-or-false false = refl
 
 module _ (t : Float) (w h : ℕ) (pos : 0 < w) (plane : List Float) (big : lt maxF32 t ≡ false) where
   abbrev N : ℕ
@@ -81,31 +78,31 @@ module _ (t : Float) (w h : ℕ) (pos : 0 < w) (plane : List Float) (big : lt ma
 
   seed-is : (k : ℕ) → border w h k ≡ false → below t plane k ≡ true → seed t w h plane k ≡ true
   unfolding seed
-  seed-is k e l = and-both _ _ (ap not e) l
+  seed-is k e l = and-intro (ap not e) l
 
   not-seed : (k : ℕ) → (border w h k ≡ true) ⊎ (below t plane k ≡ false) → seed t w h plane k ≡ false
   unfolding seed
-  not-seed k (inl e) = and-left _ _ (ap not e)
-  not-seed k (inr e) = and-right (not (border w h k)) (below t plane k) e
+  not-seed k (inl e) = and-not-left _ _ (ap not e)
+  not-seed k (inr e) = and-not-right (not (border w h k)) (below t plane k) e
 
   first-is : (k : ℕ) → seed t w h plane k ≡ true → CL k k ≡ false → first t w h plane k ≡ true
   unfolding first
-  first-is k d c = and-both _ _ d (ap not c)
+  first-is k d c = and-intro d (ap not c)
 
   not-first : (k : ℕ) → (seed t w h plane k ≡ false) ⊎ (CL k k ≡ true) → first t w h plane k ≡ false
   unfolding first
-  not-first k (inl d) = and-left _ _ d
-  not-first k (inr c) = and-right (seed t w h plane k) (not (CL k k)) (ap not c)
+  not-first k (inl d) = and-not-left _ _ d
+  not-first k (inr c) = and-not-right (seed t w h plane k) (not (CL k k)) (ap not c)
 
   clustered-found : (k s i : ℕ) → s < k → seed t w h plane s ≡ true → connected t w plane s i ≡ true → CL k i ≡ true
   unfolding clustered
-  clustered-found k s i b d c = any-found k s (λ s. seed t w h plane s && connected t w plane s i) b (and-both _ _ d c)
+  clustered-found k s i b d c = any-found k s (λ s. seed t w h plane s && connected t w plane s i) b (and-intro d c)
 
   clustered-from : (k i : ℕ) → CL k i ≡ true → (s : ℕ) × (s < k) × (seed t w h plane s ≡ true) × J s i
   unfolding clustered
   clustered-from k i c =
       let q = any-from k (λ s. seed t w h plane s && connected t w plane s i) c in
-      let r = and-true (seed t w h plane (q .0)) (connected t w plane (q .0) i) (q .2) in
+      let r = and-parts (seed t w h plane (q .0)) (connected t w plane (q .0) i) (q .2) in
       (q .0, q .1, r .0, connected-joined t w pos plane (q .0) i (r .1))
 
   clustered-more : (k i : ℕ) → CL (suc k) i ≡ CL k i || (seed t w h plane k && connected t w plane k i)
@@ -166,8 +163,8 @@ module _ (t : Float) (w h : ℕ) (pos : 0 < w) (plane : List Float) (big : lt ma
     -- its cluster is known already
     known : (k : ℕ) → CL k k ≡ true → F k ≡ F (suc k)
     known k c = nothing k (not-first k (inr c)) (λ i. clustered-more k i ∙ same-test (CL k i || (seed t w h plane k && connected t w plane k i)) (CL k i)
-        (λ a. ⊎-elim (λ x. x) (λ x. spreads k k i c (connected-joined t w pos plane k i (and-true (seed t w h plane k) (connected t w plane k i) x .1))) (or-true (CL k i) _ a))
-        (λ a. or-left (CL k i) _ a))
+        (λ a. ⊎-elim (λ x. x) (λ x. spreads k k i c (connected-joined t w pos plane k i (and-parts (seed t w h plane k) (connected t w plane k i) x .1))) (or-cases (CL k i) _ a))
+        (λ a. or-inl (CL k i) _ a))
 
     skip : (k : ℕ) → (border w h k ≡ true) ⊎ (below t (M k) k ≡ false) → F k ≡ F (suc k)
     skip k (inl e) = no-seed k (not-seed k (inl e))
@@ -197,15 +194,10 @@ module _ (t : Float) (w h : ℕ) (pos : 0 < w) (plane : List Float) (big : lt ma
           let x : i < N = subst (λ (n : ℕ). i < n) (length-marked (suc k)) b in
           getD-marked (suc k) i x
           ∙ ap (λ (b : Bool). cond b maxF32 (getD plane i nan)) (clustered-more k i ∙ ap (λ (d : Bool). CL k i || (d && connected t w plane k i)) is-seed)
-          ∙ either (CL k i) (connected t w plane k i) maxF32 (getD plane i nan)
+          ∙ sym (overlay (CL k i) (connected t w plane k i) maxF32 maxF32 (getD plane i nan) (λ e. refl))
           ∙ ap (λ (v : Float). cond (connected t w plane k i) maxF32 v) (sym (getD-marked k i x))
           ∙ ap (λ (b : Bool). cond b maxF32 (getD (M k) i nan)) (sym (same-connected k fresh i))
           ∙ sym (getD-tabulate (length (M k)) (λ i. cond (connected t w (M k) k i) maxF32 (getD (M k) i nan)) i nan (subst (λ (n : ℕ). i < n) (sym (length-marked k)) x)))
-        where
-          either : (a b : Bool) (x y : Float) → cond (a || b) x y ≡ cond b x (cond a x y)
-          either true true x y = refl
-          either true false x y = refl
-          either false b x y = refl
 
       new : F (suc k) ≡ record { plane = erased t w (M k) k; rows = put (F k .rows) (F k .total) (rowOf t w (M k) k); total = F k .total + 1 }
       new = found-path new-plane

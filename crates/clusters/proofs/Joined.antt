@@ -3,16 +3,17 @@
 use mathlib.Core.Path.{_≡_, refl, sym, ap, _∙_, subst}
 use mathlib.Core.Logic.{_⊎_, inl, inr, ⊎-elim}
 use mathlib.Core.Bool.{Bool, true, false, not, _&&_, _||_, cond, true≢false, false≢true}
+use mathlib.Mathlib.Data.Bool.Basic.{and-intro, or-inl, or-inr}
 use Prim.Native.Nat.{ℕ, zero, suc, _+_, _-_, _≤_, _<_}
 use native.Mathlib.Nat.{not-suc-le-zero, zero-add, suc-add, sub-add-cancel, le-refl}
 use native.Mathlib.Omega.{arith}
 use lib.Dec.{eqb}
-use borrow.Author.Tests.{eqb-true, eq-eqb}
+use borrow.Author.Tests.{eqb-true, eq-eqb, not-true}
 use Rattle.lists.specs.Sum.{sum}
+use Rattle.lists.proofs.Bools.{and-parts, or-cases, test, same?}
 use Rattle.lists.proofs.Sum.{sum-le}
 use Rattle.clusters.specs.Connected.{beside, reach}
 use Rattle.clusters.specs.Clusters.{any}
-use Rattle.clusters.proofs.Bools.{and-true, and-both, or-true, or-left, or-right, test, same?}
 use Rattle.clusters.proofs.Any.{any-found, any-from}
 use Rattle.clusters.proofs.Neighbours.{Beside, beside-sym, beside-found, beside-from}
 
@@ -83,12 +84,12 @@ module _ (w : ℕ) (pos : 0 < w) (set : ℕ → Bool) (s : ℕ) where
 
   reach-here : set s ≡ true → (k : ℕ) → R k s ≡ true
   unfolding reach
-  reach-here e zero = and-both _ _ e (eq-eqb s s refl)
-  reach-here e (suc k) = and-both _ _ e (or-left _ _ (eq-eqb s s refl))
+  reach-here e zero = and-intro e (eq-eqb s s refl)
+  reach-here e (suc k) = and-intro e (or-inl _ _ (eq-eqb s s refl))
 
   reach-step : (k p i : ℕ) → R k p ≡ true → Beside w p i → set i ≡ true → R (suc k) i ≡ true
   unfolding reach
-  reach-step k p i h b e = and-both _ _ e (or-right (eqb i s) (beside w (R k) i) (beside-found w pos (R k) i b h))
+  reach-step k p i h b e = and-intro e (or-inr (eqb i s) (beside w (R k) i) (beside-found w pos (R k) i b h))
 
   -- the last sample of what is reached in k + 1 steps
   abbrev Last : ℕ → ℕ → Type 0
@@ -97,12 +98,12 @@ module _ (w : ℕ) (pos : 0 < w) (set : ℕ → Bool) (s : ℕ) where
   reach-last : (k i : ℕ) → R (suc k) i ≡ true → Last k i
   unfolding reach
   reach-last k i h =
-      let q = and-true (set i) (eqb i s || beside w (R k) i) h in
-      (q .0, ⊎-elim (λ a. inl (eqb-true i s a)) (λ a. inr (beside-from w pos (R k) i a)) (or-true (eqb i s) (beside w (R k) i) (q .1)))
+      let q = and-parts (set i) (eqb i s || beside w (R k) i) h in
+      (q .0, ⊎-elim (λ a. inl (eqb-true i s a)) (λ a. inr (beside-from w pos (R k) i a)) (or-cases (eqb i s) (beside w (R k) i) (q .1)))
 
   reach-zero : (i : ℕ) → R zero i ≡ true → (set i ≡ true) × (i ≡ s)
   unfolding reach
-  reach-zero i h = let q = and-true (set i) (eqb i s) h in (q .0, eqb-true i s (q .1))
+  reach-zero i h = let q = and-parts (set i) (eqb i s) h in (q .0, eqb-true i s (q .1))
 
   -- what is reached is joined
   pub reach-joined : (k i : ℕ) → R k i ≡ true → Joined w set s i
@@ -151,17 +152,13 @@ module _ (w : ℕ) (pos : 0 < w) (set : ℕ → Bool) (s : ℕ) where
         ⊎-elim
         (λ a.
         let q = any-from n (λ i. R (suc k) i && not (R k i)) a in
-        let b = and-true (R (suc k) (q .0)) (not (R k (q .0))) (q .2) in
+        let b = and-parts (R (suc k) (q .0)) (not (R k (q .0))) (q .2) in
         inr (size-grows (R k) (R (suc k)) (reach-more k) (q .0) (not-true (R k (q .0)) (b .1)) (b .0) n (q .1)))
         (λ a. inl (λ i h. ⊎-elim
         (λ t. t)
-        (λ t. absurd (true≢false (sym (any-found n i (λ i. R (suc k) i && not (R k i)) (inside i (reach-last k i h .0)) (and-both _ _ h (ap not t))) ∙ a)))
+        (λ t. absurd (true≢false (sym (any-found n i (λ i. R (suc k) i && not (R k i)) (inside i (reach-last k i h .0)) (and-intro h (ap not t))) ∙ a)))
         (test (R k i))))
         (test (any n (λ i. R (suc k) i && not (R k i))))
-      where
-        not-true : (b : Bool) → not b ≡ true → b ≡ false
-        not-true true e = absurd (false≢true e)
-        not-true false e = refl
 
     counted : set s ≡ true → (k : ℕ) → ((j : ℕ) × (j ≤ k) × Ended j) ⊎ (k < size (R k) n)
     counted e zero = inr (lt-of-member (R zero) s (reach-here e zero) n (inside s e))

@@ -1,6 +1,7 @@
 -- An f32 is finite exactly where it lies between the largest negated and the largest, and none is above the largest but infinity. Assumes nothing.
 use mathlib.Core.Path.{_≡_, refl, sym, ap, _∙_, subst}
 use mathlib.Core.Bool.{Bool, true, false, _&&_, _||_, false≢true}
+use mathlib.Mathlib.Data.Bool.Basic.{and-intro, or-inl, or-inr}
 use Prim.Native.Nat.{ℕ, zero, suc, zero-le, _+_, _-_, _*_, _%_, _^_, _≤_, _<_}
 use native.Mathlib.Nat.{mul-le-mul, mul-le-mul-right, mul-assoc, mul-one, zero-mul, lt-of-mul-lt-mul-right}
 use native.Mathlib.Decide.{decLe, decLt}
@@ -12,8 +13,8 @@ use lib.Pow.{pow-pos, pow-mono, pow-add}
 use lib.Ieee.{Float, nan, inf, fin, binary32, fits, ofBits, lt, le, eq, neg, up, down}
 use lib.Ieee.Scale.{finite}
 use borrow.Author.Tests.{ltb-true, le-ltb, lt-ltb, eq-eqb}
+use Rattle.lists.proofs.Bools.{and-parts}
 use Rattle.clusters.specs.Clusters.{maxF32}
-use Rattle.clusters.proofs.Bools.{and-true, and-both, or-left, or-right}
 
 -- the largest f32 is m × 2^104, m being the greatest number of 24 binary digits
 abbrev m : ℕ
@@ -38,9 +39,9 @@ parts s n d h =
     let digits : Bool = ltb (suc n) (2 ^ 24) in
     let fine : Bool = leb (down d) (2 ^ 149) in
     let limit : Bool = ltb (suc n * up d) (2 ^ 128 * down d) in
-    let q = and-true (odd && digits && fine) limit h in
-    let r = and-true (odd && digits) fine (q .0) in
-    (ltb-true (suc n) (2 ^ 24) (and-true odd digits (r .0) .1), ltb-true (suc n * up d) (2 ^ 128 * down d) (q .1))
+    let q = and-parts (odd && digits && fine) limit h in
+    let r = and-parts (odd && digits) fine (q .0) in
+    (ltb-true (suc n) (2 ^ 24) (and-parts odd digits (r .0) .1), ltb-true (suc n * up d) (2 ^ 128 * down d) (q .1))
 
 magnitude : (s : Bool) (n : ℕ) (d : ℤ) → fits binary32 (fin s n d) ≡ true → n * up d ≤ m * 2 ^ 104 * down d
 magnitude s zero d h = subst (λ (x : ℕ). x ≤ m * 2 ^ 104 * down d) (sym (zero-mul (up d))) zero-le
@@ -67,8 +68,8 @@ none-above (fin true n d) h f = refl
 at-most : (a b x y : ℕ) (c : Bool) → a ≤ b → (a ≡ b → x ≡ y) → ltb a b || eqb x y && (true || c) ≡ true
 at-most a b x y c h f =
     elim (decLt a b) [
-      | yes l ↦ or-left (ltb a b) _ (lt-ltb a b l)
-      | no l ↦ or-right (ltb a b) (eqb x y && true) (and-both (eqb x y) true (eq-eqb x y (f (omega arith))) refl)
+      | yes l ↦ or-inl (ltb a b) _ (lt-ltb a b l)
+      | no l ↦ or-inr (ltb a b) (eqb x y && true) (and-intro {a = eqb x y} {b = true} (eq-eqb x y (f (omega arith))) refl)
     ]
 
 module _ (d : ℤ) where
@@ -85,7 +86,7 @@ module _ (d : ℤ) where
   le-largest : (s : Bool) (n : ℕ) → fits binary32 (fin s n d) ≡ true → le (fin s n d) maxF32 ≡ true
   unfolding le lt eq ofBits
   le-largest false n h = at-most (n * up d * 1) limit (n * up d * 1) limit (eqb (n * up d * 1) 0) (size false n h) (λ e. e)
-  le-largest true n h = or-left (ltb 0 (n * up d * 1 + limit)) _ (lt-ltb 0 (n * up d * 1 + limit) (more (n * up d * 1) limit-pos))
+  le-largest true n h = or-inl (ltb 0 (n * up d * 1 + limit)) _ (lt-ltb 0 (n * up d * 1 + limit) (more (n * up d * 1) limit-pos))
     where
       more : (a : ℕ) {b : ℕ} → 0 < b → 0 < a + b
       more a h = omega arith
@@ -93,7 +94,7 @@ module _ (d : ℤ) where
   largest-le : (s : Bool) (n : ℕ) → fits binary32 (fin s n d) ≡ true → le (neg maxF32) (fin s n d) ≡ true
   unfolding le lt eq neg ofBits
   largest-le true n h = at-most (n * up d * 1) limit limit (n * up d * 1) (eqb limit 0) (size true n h) sym
-  largest-le false n h = or-left (ltb 0 (limit + n * up d * 1)) _ (lt-ltb 0 (limit + n * up d * 1) (more (n * up d * 1) limit-pos))
+  largest-le false n h = or-inl (ltb 0 (limit + n * up d * 1)) _ (lt-ltb 0 (limit + n * up d * 1) (more (n * up d * 1) limit-pos))
     where
       more : (a : ℕ) {b : ℕ} → 0 < b → 0 < b + a
       more a h = omega arith
@@ -103,4 +104,4 @@ unfolding le lt eq neg ofBits
 finite-between nan h = refl
 finite-between (inf false) h = refl
 finite-between (inf true) h = refl
-finite-between (fin s n d) h = and-both (le (neg maxF32) (fin s n d)) (le (fin s n d) maxF32) (largest-le d s n h) (le-largest d s n h)
+finite-between (fin s n d) h = and-intro (largest-le d s n h) (le-largest d s n h)

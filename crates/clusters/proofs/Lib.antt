@@ -1,4 +1,3 @@
-pub mod Bools
 pub mod Any
 pub mod Members
 pub mod Neighbours

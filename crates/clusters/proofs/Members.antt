@@ -8,7 +8,7 @@ use native.Mathlib.Nat.{not-suc-le-zero, suc-mul}
 use native.Mathlib.Omega.{arith}
 use lib.ListN.{length}
 use Rattle.lists.specs.Sum.{sum}
-use Rattle.clusters.proofs.Bools.{same?}
+use Rattle.lists.proofs.Bools.{same?}
 
 -- ---- lists
 

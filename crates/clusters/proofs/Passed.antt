@@ -1,16 +1,16 @@
 -- The search for a sample below the threshold: how it goes on. Assumes nothing.
 use mathlib.Core.Path.{_≡_, refl, sym, _∙_, subst}
 use mathlib.Core.Logic.{⊎-elim}
-use mathlib.Core.Bool.{true, false, true≢false}
+use mathlib.Core.Bool.{false, true≢false}
 use mathlib.Core.List.{List}
 use Prim.Native.Nat.{ℕ, _+_, _-_, _≤_, _<_}
 use native.Mathlib.Decide.{decLt}
 use native.Mathlib.Omega.{arith}
 use lib.Ieee.{Float}
+use Rattle.lists.proofs.Bools.{test}
 use Rattle.clusters.specs.Connected.{below}
 use Rattle.clusters.specs.Clusters.{any}
 use Rattle.clusters.specs.Walk.{Passed}
-use Rattle.clusters.proofs.Bools.{test}
 use Rattle.clusters.proofs.Any.{any-found}
 
 module _ (t : Float) (plane : List Float) (a end : ℕ) where

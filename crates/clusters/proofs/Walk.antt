@@ -3,6 +3,7 @@
 use mathlib.Core.Path.{_≡_, refl, sym, ap, _∙_, subst}
 use mathlib.Core.Logic.{_⊎_, inl, inr, ⊎-elim}
 use mathlib.Core.Bool.{Bool, true, false, not, _&&_, cond, false≢true}
+use mathlib.Mathlib.Data.Bool.Basic.{and-intro}
 use mathlib.Core.List.{List, [], _∷_, _++_}
 use Prim.Native.Nat.{ℕ, _+_, _-_, _*_, _/_, _%_, _≤_, _<_}
 use native.Mathlib.Nat.{mod-lt, div-le-self, mul-one}
@@ -10,11 +11,11 @@ use native.Mathlib.Omega.{arith}
 use lib.ListN.{length, getD, take, set, length-set}
 use lib.Seq.{getD-set-same, getD-set-other, ext-getD}
 use lib.Ieee.{Float, nan, lt}
+use Rattle.lists.proofs.Bools.{and-parts, and-not-left, and-not-right, same-test, test, same?}
 use Rattle.lists.proofs.Tab.{length-tabulate, getD-tabulate}
 use Rattle.clusters.specs.Connected.{below, connected}
 use Rattle.clusters.specs.Clusters.{maxF32, rowOf}
 use Rattle.clusters.specs.Walk.{Walk, walk, claimed, leftOf, rightOf, aboveOf, underOf, claimedAround, erased}
-use Rattle.clusters.proofs.Bools.{and-true, and-both, and-left, and-right, same-test, test, same?}
 use Rattle.clusters.proofs.Members.{In, in-append, in-left, in-right, listSum, list-sum-more, list-sum-ones, setSum, set-sum-none, set-sum-same, set-sum-le, set-sum-more}
 use Rattle.clusters.proofs.Neighbours.{Beside}
 use Rattle.clusters.proofs.Stack.{pushed, popped}
@@ -101,7 +102,7 @@ module _ (t : Float) (w : ℕ) (plane₀ : List Float) (s : ℕ) where
     pub counted : Sum v (λ _. 1) count
 
   not-marked : (v : Walk) (i : ℕ) → below t (v .plane) i ≡ true → marked v i ≡ false
-  not-marked v i e = and-right (below t plane₀ i) (not (below t (v .plane) i)) (ap not e)
+  not-marked v i e = and-not-right (below t plane₀ i) (not (below t (v .plane) i)) (ap not e)
 
   -- what is below the threshold was so from the start
   was-low : (v : Walk) (i : ℕ) → getD (v .plane) i nan ≡ cond (marked v i) maxF32 (getD plane₀ i nan) → below t (v .plane) i ≡ true → below t plane₀ i ≡ true
@@ -113,7 +114,7 @@ module _ (t : Float) (w : ℕ) (plane₀ : List Float) (s : ℕ) where
   origin = record { plane = plane₀; waiting = [] }
 
   none-marked : (i : ℕ) → marked origin i ≡ false
-  none-marked i = ⊎-elim (λ e. not-marked origin i e) (λ e. and-left _ _ e) (test (below t plane₀ i))
+  none-marked i = ⊎-elim (λ e. not-marked origin i e) (λ e. and-not-left _ _ e) (test (below t plane₀ i))
 
   no-sum : (f : ℕ → ℕ) → Sum origin f 0
   unfolding listSum
@@ -143,7 +144,7 @@ module _ (t : Float) (w : ℕ) (plane₀ : List Float) (s : ℕ) where
       inside = below-inside t (v .plane) q low
 
       mark : marked v′ q ≡ true
-      mark = and-both _ _ (was-low v q (S .values q) low) (ap not (set-high t q v big))
+      mark = and-intro (was-low v q (S .values q) low) (ap not (set-high t q v big))
 
       others : (i : ℕ) → (i ≡ q → ⊥) → marked v′ i ≡ marked v i
       others i e = ap (λ (k : Float). below t plane₀ i && not (lt k t)) (getD-set-other (v .plane) q i maxF32 nan e)
@@ -207,7 +208,7 @@ module _ (t : Float) (w : ℕ) (plane₀ : List Float) (s : ℕ) where
     top-marked = S .waits p (in-right p rest (p ∷ []) (inl refl))
 
     top-inside : p < N
-    top-inside = below-inside t plane₀ p (and-true _ _ top-marked .0)
+    top-inside = below-inside t plane₀ p (and-parts _ _ top-marked .0)
 
     moved : (f : ℕ → ℕ) (z : ℕ) → Sum (record { plane = plane; waiting = rest ++ (p ∷ []) }) f z → Sum up-to-p f (z + f p)
     moved f z e = omega (arith, e, list-sum-more f rest p)
@@ -243,7 +244,7 @@ module _ (t : Float) (w : ℕ) (plane₀ : List Float) (s : ℕ) where
       waits = S .waits;
       holds = λ i h. absurd h;
       closed = λ i m. ⊎-elim
-          (⊎-elim (λ e. inr (inr (λ l b o. and-both _ _ o (ap not (high l (below-inside t plane₀ l o) (rw e at b)))))) (λ e. absurd e))
+          (⊎-elim (λ e. inr (inr (λ l b o. and-intro o (ap not (high l (below-inside t plane₀ l o) (rw e at b)))))) (λ e. absurd e))
           (λ k. inr k)
           (S .closed i m);
       sum-x = S .sum-x;
@@ -329,7 +330,7 @@ module _ (t : Float) (w : ℕ) (plane₀ : List Float) (s : ℕ) where
 
     module _ (S : State [] end x y count) (claimed-seed : below t plane s ≡ false) where
       all-marked : {i : ℕ} → Joined w (below t plane₀) s i → marked end i ≡ true
-      all-marked (here e) = and-both _ _ e (ap not claimed-seed)
+      all-marked (here e) = and-intro e (ap not claimed-seed)
       all-marked (step {p} {i} j b e) = ⊎-elim (λ k. absurd k) (⊎-elim (λ k. absurd k) (λ c. c i b e)) (S .closed p (all-marked j))
 
       found : (i : ℕ) → marked end i ≡ connected t w plane₀ s i

@@ -12,7 +12,6 @@ use Rattle.lists.proofs.Sum.{sum-ext}
 use Rattle.lists.proofs.Tab.{length-tabulate, getD-tabulate}
 use Rattle.word.specs.Word.{bit, word}
 use Rattle.levels.specs.Levels.{overAll, leastOf, greatestOf, middleOf, above, wordOf, unsure, unsureOf, codeOf}
-use Rattle.word.proofs.Bits.{bit-lt, bit-word}
 use Rattle.levels.proofs.Reorder.{Reorders, reorders-lt, reorders-onto}
 use Rattle.levels.proofs.Extremes.{Taken, over-none, least, greatest, part}
 use Rattle.levels.proofs.Cases.{outcome, onAccepted, outcome-accepted}
@@ -25,15 +24,6 @@ reordered σ levels = tabulate (length levels) (λ k. getD levels (σ k) 0)
 -- a word of n places for levels so reordered
 abbrev pub reordered-word : ℕ → (ℕ → ℕ) → ℕ → ℕ
 reordered-word n σ w = word n (λ place. bit w (n - 1 - σ (n - 1 - place)))
-
--- ---- the word's places
-
-pub bit-reordered : (n : ℕ) (σ : ℕ → ℕ) (w k : ℕ) → k < n → bit (reordered-word n σ w) (n - 1 - k) ≡ bit w (n - 1 - σ k)
-bit-reordered n σ w k h =
-    let there : n - 1 - k < n = omega arith in
-    let back : n - 1 - (n - 1 - k) ≡ k = omega arith in
-    bit-word n (λ place. bit w (n - 1 - σ (n - 1 - place))) (λ place. bit-lt w (n - 1 - σ (n - 1 - place))) (n - 1 - k) there
-    ∙ ap (λ (x : ℕ). bit w (n - 1 - σ x)) back
 
 -- ---- the levels
 

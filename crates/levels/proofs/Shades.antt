@@ -1,18 +1,17 @@
 -- Levels that keep clear of the middle are read as what they are; levels that lie close together are refusal 11. Assumes nothing.
-use mathlib.Core.Path.{_≡_, refl, sym, ap, ap₂, _∙_}
+use mathlib.Core.Path.{_≡_, sym, ap, ap₂, _∙_}
 use mathlib.Core.Logic.{_⊎_, inl, inr}
 use mathlib.Core.List.{List}
-use Prim.Native.Nat.{ℕ, zero, suc, _+_, _-_, _/_, _≤_, _<_, min, max}
-use native.Mathlib.Nat.{le-of-eq}
+use Prim.Native.Nat.{ℕ, _+_, _-_, _/_, _≤_, _<_}
 use native.Mathlib.Omega.{arith}
 use borrow.Author.Tests.{lt-ltb, le-ltb}
 use lib.ListN.{length, getD}
 use Rattle.lists.proofs.Sum.{sum-ext, sum-none}
-use Rattle.refusals.specs.Outcome.{accepted, refused}
+use Rattle.refusals.specs.Outcome.{accepted}
 use Rattle.word.specs.Word.{word}
 use Rattle.levels.specs.Levels.{leastOf, greatestOf, middleOf, oneIf, above, distance, unsure, unsureOf, codeOf}
-use Rattle.levels.proofs.Extremes.{Level, over-none, range-within, range-is}
-use Rattle.levels.proofs.Cases.{code-flat, code-word}
+use Rattle.levels.proofs.Extremes.{Level, range-is}
+use Rattle.levels.proofs.Cases.{code-word}
 use Rattle.levels.proofs.Places.{word-by-levels}
 
 -- a level of the bit b keeps at least gap from the middle: 1 above it, 0 below it
@@ -61,16 +60,3 @@ module _ (l : List ℕ) (band allowed light dark : ℕ) (f : ℕ → ℕ) (near 
       let middle = ap₂ (λ (x y : ℕ). (x + y + 1) / 2) (range .0) (range .1) in
       clear-code l band allowed 25 f (omega arith) near (omega (arith, range .0, range .1))
       (λ k h. shade-clear (middleOf l) (f (length l - 1 - k)) (getD l k 0) middle (shades k h))
-
--- all levels lie from low to high, which are less than 50 apart
-pub flat-code : (l : List ℕ) (band allowed low high : ℕ) → high < low + 50 → ((k : ℕ) → k < length l → (low ≤ getD l k 0) × (getD l k 0 ≤ high))
-    → codeOf l band allowed ≡ refused 11
-flat-code l band allowed low high near inside = go (length l) refl
-  where
-    go : (n : ℕ) → length l ≡ n → codeOf l band allowed ≡ refused 11
-    go zero e = code-flat l band allowed (omega (arith, over-none min l e, over-none max l e))
-    go (suc n) e = let w = range-within l low high inside (omega arith) in code-flat l band allowed (omega (arith, w .0, w .1))
-
--- one shade alone
-pub one-shade : (l : List ℕ) (band allowed shade : ℕ) → ((k : ℕ) → k < length l → getD l k 0 ≡ shade) → codeOf l band allowed ≡ refused 11
-one-shade l band allowed shade same = flat-code l band allowed shade shade (omega arith) (λ k h. (le-of-eq (sym (same k h)), le-of-eq (same k h)))

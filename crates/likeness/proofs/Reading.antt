@@ -2,11 +2,10 @@
 -- So a word near a code, in any turn of it, is read as that code at that turn, and the four turns of any word are read alike.
 -- Assumes nothing.
 use mathlib.Core.Path.{_≡_, refl, sym, ap, ap₂, _∙_, subst}
-use mathlib.Core.Logic.{_⊎_, inl, inr, ⊎-elim}
 use mathlib.Core.Bool.{Bool, true, false}
 use mathlib.Core.List.{List}
 use Prim.Native.Nat.{ℕ, zero, suc, _+_, _-_, _*_, _%_, _^_, _≤_, _<_, suc-le-suc}
-use native.Mathlib.Nat.{le-refl, not-suc-le-zero, le-of-suc-le-suc, zero-lt-suc, zero-add, add-zero}
+use native.Mathlib.Nat.{le-refl, not-suc-le-zero, zero-lt-suc, zero-add, add-zero}
 use native.Mathlib.Decide.{ℕ-discrete}
 use native.Mathlib.Omega.{arith}
 use borrow.Author.Tests.{ltb-true, ltb-false, leb-true, leb-false}
@@ -19,7 +18,7 @@ use Rattle.word.proofs.Differing.{triangle, differing-comm, turned-alike}
 use Rattle.tables.proofs.Table.{Codes}
 use Rattle.search.specs.Search.{fewest, firstAt, Seen, searchFrom, search}
 use Rattle.search.proofs.Closest.{fewest-le, fewest-is, fewest-first}
-use Rattle.search.proofs.Search.{hit, miss, none-left, Answers, Unread, Means, search-means}
+use Rattle.search.proofs.Search.{hit, miss, none-left, Means, search-means}
 use Rattle.likeness.specs.Start.{turnLess, seenFrom}
 use Rattle.likeness.proofs.Apart.{Unlike}
 

@@ -1,12 +1,12 @@
 -- Comparing a code's four turns with another code as it is compares them in any turns. Assumes nothing.
 use mathlib.Core.Path.{_≡_, refl, sym, ap, _∙_, subst, subst₂}
 use mathlib.Core.Bool.{Bool, true, false, _&&_, _||_}
-use Prim.Native.Nat.{ℕ, zero, suc, _+_, _-_, _*_, _^_, _≤_, _<_}
+use Prim.Native.Nat.{ℕ, zero, suc, _-_, _*_, _^_, _≤_, _<_}
 use native.Mathlib.Nat.{not-suc-le-zero}
 use native.Mathlib.Omega.{arith}
-use borrow.Author.Tests.{le-leb, leb-true, eqb-true, eqb-false, ne-eqb, eq-eqb}
+use borrow.Author.Tests.{le-leb, leb-true, eqb-false, ne-eqb}
 use lib.Dec.{leb, eqb, lit<}
-use Rattle.lists.proofs.All.{and-left, and-right}
+use Rattle.lists.proofs.Bools.{same-test, and-left, and-right}
 use Rattle.word.specs.Word.{turns, differing}
 use Rattle.word.proofs.Differing.{align, turned-alike, differing-comm}
 use Rattle.word.proofs.Turn.{turns-lt, turns-four, turns-add}
@@ -14,7 +14,7 @@ use Rattle.lists.specs.Each.{each}
 use Rattle.likeness.specs.Likeness.{apart, apartInTurns, apartFromItself}
 use Rattle.likeness.specs.Turned.{FourTurns, farFrom, farSelf}
 use Rattle.likeness.specs.declared.Turns.{Turns}
-use Rattle.lists.proofs.Each.{same-test, each-at, each-of}
+use Rattle.lists.proofs.Each.{each-at, each-of}
 
 -- the four numbers of turns
 by-turn : (P : ℕ → Type 0) → P 0 → P 1 → P 2 → P 3 → (r : ℕ) → r < 4 → P r

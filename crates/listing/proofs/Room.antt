@@ -4,7 +4,7 @@ use mathlib.Core.Bool.{false, not, _||_}
 use Prim.Native.Nat.{ℕ, _*_, _%_, _≤_}
 use borrow.Author.Tests.{eqb-true, ltb-false, not-false}
 use lib.Dec.{eqb, ltb}
-use Rattle.lists.proofs.All.{or-left, or-right}
+use Rattle.lists.proofs.Bools.{or-left, or-right}
 use Rattle.points.specs.Numbers.{quadSize}
 use Rattle.listing.specs.Listing.{rowSize, mostQuads, quadCount, badList}
 

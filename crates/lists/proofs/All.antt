@@ -4,27 +4,12 @@ use mathlib.Core.Path.{_≡_, refl, sym, ap, ap₂, _∙_}
 use Prim.Native.Nat.{ℕ, zero, suc, _+_, _<_, _≤_, suc-le-suc}
 use native.Mathlib.Nat.{not-suc-le-zero, le-of-suc-le-suc, zero-lt-suc}
 use native.Mathlib.Numerals.{add-one}
-use mathlib.Core.Bool.{Bool, true, false, _&&_, _||_, and-assoc, and-true, true≢false}
+use mathlib.Core.Bool.{Bool, true, false, _&&_, and-assoc, and-true}
 use mathlib.Core.List.{List, [], _∷_}
 use lib.ListN.{length, drop, getD, drop-of-length-le}
 use lib.Seq.{drop-cons}
 use Rattle.lists.specs.Tab.{all}
-
-pub or-left : (a b : Bool) → a || b ≡ false → a ≡ false
-or-left true b e = absurd (true≢false e)
-or-left false b e = refl
-
-pub or-right : (a b : Bool) → a || b ≡ false → b ≡ false
-or-right true b e = absurd (true≢false e)
-or-right false b e = e
-
-pub and-left : (a b : Bool) → a && b ≡ true → a ≡ true
-and-left true b e = refl
-and-left false b e = e
-
-pub and-right : (a b : Bool) → a && b ≡ true → b ≡ true
-and-right true b e = e
-and-right false b e = absurd (true≢false (sym e))
+use Rattle.lists.proofs.Bools.{and-left, and-right}
 
 module _ {ℓ} {A : Type ℓ} (ok : A → Bool) (l : List A) (i : ℕ) (d : A) (h : i < length l) where
   all-step : all ok (drop i l) ≡ ok (getD l i d) && all ok (drop (suc i) l)

@@ -1,7 +1,6 @@
 -- A list that is written from its start on, sample by sample or part by part, keeps `Filled`: `filled-none`, `filled-one`,
--- `filled-part`, `filled-all`. A plane whose rows 0, 1, .. are written keeps `Written`: `rows-none`, `rows-more`, `rows-all`. Assumes
--- nothing.
-use mathlib.Core.Path.{_≡_, refl, sym, ap, _∙_}
+-- `filled-part`, `filled-all`; a plane whose rows 0, 1, .. are written, too: `rows-none`, `rows-more`, `rows-all`. Assumes nothing.
+use mathlib.Core.Path.{_≡_, refl, sym, ap, _∙_, subst}
 use mathlib.Core.List.{List, _∷_, _++_}
 use Prim.Native.Nat.{ℕ, zero, suc, _+_, _-_, _*_, _≤_, _<_, suc-le-suc}
 use native.Mathlib.Nat.{le-refl, zero-add, suc-add, zero-lt-suc, zero-mul, mul-comm, mul-le-mul-right}
@@ -93,40 +92,22 @@ module _ {ℓ} {A : Type ℓ} where
     filled-all m out h r = written-all f m n out (r .whole) (omega (arith, r .low)) (r .done)
 
   -- of a plane w wide and h high, given by f, the first y rows are written
-  pub record Written (f : ℕ → A) (w h y : ℕ) (out : List A) : Type ℓ where
-    pub low : y ≤ h
-    pub whole : length out ≡ w * h
-    pub done : take (y * w) out ≡ tabulate (y * w) f
-
   module _ (f : ℕ → A) (w h : ℕ) where
-    pub rows-none : (out : List A) → length out ≡ w * h → Written f w h 0 out
-    rows-none out e =
-        record { low = omega arith; whole = e; done = rw (zero-mul w) (written-none f out) }
+    pub rows-none : (out : List A) → length out ≡ w * h → Filled f (w * h) (0 * w) out
+    rows-none out e = rw (zero-mul w) (filled-none f (w * h) out e)
 
-    pub rows-all : (y : ℕ) (out : List A) → h ≤ y → Written f w h y out → out ≡ tabulate (w * h) f
-    rows-all y out e r =
-        let q : y ≡ h = omega (arith, r .low) in
-        written-all f (y * w) (w * h) out (r .whole) (ap (λ (k : ℕ). k * w) q ∙ mul-comm h w) (r .done)
+    -- and then the k places that lead to row z
+    pub rows-up-to : (y z k e : ℕ) (out part : List A) → z ≤ h → e ≡ y * w + k → e ≡ z * w → part ≡ tabulate k (λ i. f (y * w + i)) → Filled f (w * h) (y * w) out → Filled f (w * h) (z * w) (back out (y * w) (e - y * w) part)
+    rows-up-to y z k e out part b end up is r =
+        subst (λ (m : ℕ). Filled f (w * h) m (back out (y * w) (e - y * w) part)) up
+        (filled-part f (w * h) (y * w) (y * w) e k out part (le-refl (y * w)) (omega (arith, up, mul-le-mul-right w b, mul-comm w h)) end is r)
 
-  module _ (f : ℕ → A) (w h y k : ℕ) (out row : List A) (b : y < h) (e : k ≡ w) (is : row ≡ tabulate w (λ x. f (y * w + x))) (r : Written f w h y out) where
-    fits : y * w + w ≤ length out
-    fits = rw (r .whole) (row-fits w h y b)
+    pub rows-more : (y : ℕ) (out row : List A) → y < h → row ≡ tabulate w (λ x. f (y * w + x)) → Filled f (w * h) (y * w) out → Filled f (w * h) ((y + 1) * w) (back out (y * w) (y * w + w - y * w) row)
+    rows-more y out row b is r = rows-up-to y (y + 1) w (y * w + w) out row (add-one-le b) refl (next-row w y) is r
 
-    wide : length row ≡ w
-    wide = ap length is ∙ length-tabulate w _
+    -- the first row, which starts at 0
+    pub rows-first : (out row : List A) → 0 < h → row ≡ tabulate w (λ x. f (0 * w + x)) → length out ≡ w * h → Filled f (w * h) (1 * w) (back out 0 (w - 0) row)
+    rows-first out row b is whole = rw (zero-mul w, zero-add w) at (rows-more 0 out row b is (rows-none out whole))
 
-    written : take ((y + 1) * w) (back out (y * w) k row) ≡ tabulate ((y + 1) * w) f
-    written = rw (next-row w y) at (part-done f (y * w) (y * w) k w out row (le-refl (y * w)) fits is (r .done))
-
-    pub rows-more : Written f w h (y + 1) (back out (y * w) k row)
-    rows-more =
-        record {
-          low = omega arith;
-          whole = length-back out row (y * w) k (rw e fits) (wide ∙ sym e) ∙ r .whole;
-          done = written;
-        }
-
-  -- the first row, which starts at 0
-  pub rows-first : (f : ℕ → A) (w h k : ℕ) (out row : List A) → 0 < h → k ≡ w → row ≡ tabulate w (λ x. f (0 * w + x)) → length out ≡ w * h → Written f w h 1 (back out 0 k row)
-  rows-first f w h k out row b e is whole =
-      rw (zero-mul w) at (rows-more f w h 0 k out row b e is (rows-none f w h out whole))
+    pub rows-all : (y : ℕ) (out : List A) → h ≤ y → Filled f (w * h) (y * w) out → out ≡ tabulate (w * h) f
+    rows-all y out b r = filled-all f (w * h) (y * w) out (omega (arith, mul-le-mul-right w b, mul-comm w h)) r

@@ -1,12 +1,11 @@
 -- A list given by a function of the index: its length, its elements, and the loop that writes it.
 -- A loop that writes f i to out[i] for i = 0, 1, .. keeps `take i out ≡ tabulate i f`: `written-none`, `written-more`, `written-all`. Assumes nothing.
-use mathlib.Core.Path.{_≡_, refl, sym, ap, _∙_, subst}
+use mathlib.Core.Path.{_≡_, refl, sym, ap, _∙_}
 use mathlib.Core.List.{List, [], _∷_, _++_, append-nil}
-use Prim.Native.Nat.{ℕ, zero, suc, _+_, _≤_, _<_}
+use Prim.Native.Nat.{ℕ, zero, suc, _+_, _<_}
 use native.Mathlib.Nat.{not-suc-le-zero, le-of-suc-le-suc, le-refl, le-of-eq}
 use native.Mathlib.Numerals.{add-one}
-use native.Mathlib.Omega.{arith}
-use lib.ListN.{length, getD, take, drop, set, length-append, drop-of-length-le}
+use lib.ListN.{length, getD, take, drop, set, drop-of-length-le}
 use lib.Seq.{take-suc-set, take-all, drop-cons, set-at, append-snoc, getD-at}
 use Rattle.lists.specs.Tab.{tabulate}
 

@@ -11,7 +11,7 @@ use lib.Ieee.{Float}
 use Rattle.lists.specs.Tab.{all}
 use Rattle.refusals.specs.Outcome.{accepted, refused}
 use Rattle.refusals.specs.declared.Shape.{Shape}
-use Rattle.lists.proofs.All.{or-left, or-right}
+use Rattle.lists.proofs.Bools.{or-left, or-right}
 use Rattle.refusals.proofs.Plane.{Plane}
 use Rattle.samples.specs.Samples.{inUnit, tame}
 use Rattle.blur.specs.Blur.{badWeights, across, down}

@@ -1,30 +1,17 @@
 -- Blocks of pixels that are painted one after another. Assumes nothing.
 use mathlib.Core.Path.{_≡_, refl, sym, ap, ap₂, _∙_}
-use mathlib.Core.Bool.{Bool, true, false, _&&_, _||_, cond, true≢false, and-or-distrib-left, and-or-distrib-right, and-false}
+use mathlib.Core.Bool.{Bool, true, false, _&&_, _||_, cond, and-or-distrib-left, and-or-distrib-right, and-false}
 use mathlib.Core.List.{List}
 use Prim.Native.Nat.{ℕ, _+_, _-_, _<_, _≤_}
 use native.Mathlib.Omega.{arith}
 use lib.ListN.{length, getD}
-use Rattle.lists.proofs.All.{and-left, and-right}
+use Rattle.lists.proofs.Bools.{same-test, and-left, and-right, overlay}
 use Rattle.refusals.specs.Pixels.{badFrame, placeOf, columnOf, rowOf}
 use Rattle.refusals.specs.declared.Frame.{Frame}
 use Rattle.refusals.proofs.Pixels.{place-column, place-row, byte-place, place-beside, good-frame}
 use Rattle.painter.specs.Picture.{repainted, between, runFilled, inBlock, blockPixel, filled}
 use Rattle.painter.proofs.Runs.{Within, is-within, within, between-none, between-more, length-run, byte-run}
 use Rattle.painter.proofs.Picture.{is-repainted, repainted-none, repainted-twice, repainted-same}
-
--- what is painted s by one test and then t by another is painted s by either, where t is s
-pub overlay : (a b : Bool) (s t old : ℕ) → (b ≡ true → t ≡ s) → cond b t (cond a s old) ≡ cond (a || b) s old
-overlay true true s t old e = e refl
-overlay true false s t old e = refl
-overlay false true s t old e = e refl
-overlay false false s t old e = refl
-
--- two tests that agree
-same : (a b : Bool) → (a ≡ true → b ≡ true) → (b ≡ true → a ≡ true) → a ≡ b
-same true b f g = sym (f refl)
-same false true f g = absurd (true≢false (sym (g refl)))
-same false false f g = refl
 
 pub record In (x0 y0 wide high x y : ℕ) : Type 0 where
   pub across : Within x0 wide x
@@ -79,7 +66,7 @@ module _ (frame : Frame) (x y n k : ℕ) (fits : x + n ≤ frame .width) where
 
   run-block : between (placeOf frame x y) n k ≡ inBlock x y n 1 (columnOf frame k) (rowOf frame k)
   run-block =
-      same (between (placeOf frame x y) n k) (inBlock x y n 1 (columnOf frame k) (rowOf frame k))
+      same-test (between (placeOf frame x y) n k) (inBlock x y n 1 (columnOf frame k) (rowOf frame k))
       (λ e. let i = run-to-block (is-within (placeOf frame x y) n k e) in block-in x y n 1 (columnOf frame k) (rowOf frame k) (i .across .from) (i .across .to) (i .down .from) (i .down .to))
       (λ e. let i = block-to-run (is-in x y n 1 (columnOf frame k) (rowOf frame k) e) in within (placeOf frame x y) n k (i .from) (i .to))
 

@@ -44,17 +44,6 @@ half-zero = (refl, refl)
 pub half-suc : (n : ℕ) → HasValue (halfBefore (suc n)) false (2 * n + 1) 2
 half-suc n = (refl, omega arith)
 
--- in 1024ths, to the nearest, that is 1024 n − 512
-pub half-zero-1024ths : (2 * (1024 * 1) + 2) / (2 * 2) ≡ 512
-half-zero-1024ths = refl
-
-pub half-suc-1024ths : (n : ℕ) → (2 * (1024 * (2 * n + 1)) + 2) / (2 * 2) ≡ 1024 * suc n - 512
-half-suc-1024ths n = omega arith
-
--- and to a pixel, halves away from zero, it is pixel n
-pub half-suc-pixel : (n : ℕ) → (2 * (2 * n + 1) + 2) / (2 * 2) ≡ suc n
-half-suc-pixel n = omega arith
-
 half-fits : (n : ℕ) → n < 2 ^ 23 → T (fits binary32 (fin false (2 * n + 1) (negsuc 0)))
 unfolding fits
 half-fits n h =

@@ -14,7 +14,8 @@ use Rattle.painter.specs.Part.{partPixel}
 use Rattle.painter.specs.declared.Print.{Print}
 use Rattle.painter.proofs.Runs.{Within}
 use Rattle.painter.proofs.Picture.{repainted-none, repainted-twice}
-use Rattle.painter.proofs.Block.{overlay, is-in, more-rows, more-columns, no-rows, no-columns}
+use Rattle.lists.proofs.Bools.{overlay}
+use Rattle.painter.proofs.Block.{is-in, more-rows, more-columns, no-rows, no-columns}
 
 -- x lies in cell n of those of `cell` pixels from x0 on
 pub cell-at : (x0 cell n x : ℕ) → Within (x0 + n * cell) cell x → (x - x0) / cell ≡ n

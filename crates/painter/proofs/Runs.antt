@@ -11,7 +11,7 @@ use lib.ListN.{length, getD, set, length-set}
 use lib.Seq.{ext-getD, getD-set-same, getD-set-other}
 use Rattle.lists.specs.Tab.{tabulate}
 use Rattle.lists.proofs.Tab.{length-tabulate, getD-tabulate}
-use Rattle.lists.proofs.All.{and-left, and-right}
+use Rattle.lists.proofs.Bools.{and-left, and-right}
 use Rattle.painter.specs.Picture.{between, runFilled}
 
 -- ---- what the test of a run says

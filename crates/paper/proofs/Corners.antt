@@ -11,6 +11,7 @@ use lib.Dec.{leb, ltb, eqb}
 use lib.Ieee.{Float}
 use lib.ListN.{length, getD}
 use Rattle.lists.specs.Each.{each}
+use Rattle.lists.proofs.Bools.{or-neither}
 use Rattle.lists.proofs.Each.{each-of}
 use Rattle.refusals.specs.Pixels.{levelAt}
 use Rattle.refusals.specs.declared.Frame.{Frame}
@@ -47,20 +48,17 @@ half-is (suc n) = half-suc n
 no-corner : (test : Point → Bool) (q : Quad) → test (q .q0) ≡ false → test (q .q1) ≡ false → test (q .q2) ≡ false → test (q .q3) ≡ false → anyCorner test q ≡ false
 no-corner test q a b c d = simp (a, b, c, d)
 
-either : (a b : Bool) → a ≡ false → b ≡ false → a || b ≡ false
-either a b p q = simp (p, q)
-
 -- the corner half a pixel before column u and row v
 abbrev corner : ℕ → ℕ → Point
 corner u v = record { x = halfBefore u; y = halfBefore v }
 
 good-corner : (u v : ℕ) → u ≤ 4096 → v ≤ 4096 → badCorner (corner u v) ≡ false
 good-corner u v hu hv =
-    either (badCoordinate (halfBefore u)) (badCoordinate (halfBefore v)) (half-good (halfBefore u) u (omega arith) (half-is u)) (half-good (halfBefore v) v (omega arith) (half-is v))
+    or-neither (badCoordinate (halfBefore u)) (badCoordinate (halfBefore v)) (half-good (halfBefore u) u (omega arith) (half-is u)) (half-good (halfBefore v) v (omega arith) (half-is v))
 
 near-corner : (width height u v : ℕ) → u < width → v < height → cornerOutside width height (corner u v) ≡ false
 near-corner width height u v hu hv =
-    either (leb width (pixelOf (halfBefore u))) (leb height (pixelOf (halfBefore v)))
+    or-neither (leb width (pixelOf (halfBefore u))) (leb height (pixelOf (halfBefore v)))
     (ap (leb width) (half-pixel (halfBefore u) u (half-is u)) ∙ lt-leb width u hu) (ap (leb height) (half-pixel (halfBefore v) v (half-is v)) ∙ lt-leb height v hv)
 
 module _ (len : ℕ) (frame : Frame) (edge border word : ℕ) (print : Print) (p : Printable len frame edge border word print) where

@@ -1,6 +1,6 @@
 -- Refusal 8 by two comparisons of floats. Assumes nothing.
 use mathlib.Core.Path.{_≡_, refl, sym, ap, _∙_}
-use mathlib.Core.Bool.{Bool, true, false, not, _&&_}
+use mathlib.Core.Bool.{Bool, true, false, not, _&&_, and-true}
 use Prim.Native.Nat.{ℕ, _+_, _*_, _<_}
 use native.Mathlib.Omega.{arith}
 use borrow.Author.Tests.{ltb-true, ltb-false, lt-ltb, le-leb, lt-leb}
@@ -27,10 +27,6 @@ module _ (a d : ℕ) (d-pos : 0 < d) where
       go : (t : Bool) → ltb (a * 1) (16384 * d) ≡ t → not t ≡ leb (16384 * d) a
       go true e = let h = ltb-true (a * 1) (16384 * d) e in sym (lt-leb (16384 * d) a (omega arith))
       go false e = let h = ltb-false (a * 1) (16384 * d) e in sym (le-leb (16384 * d) a (omega arith))
-
-and-true : (t : Bool) → t && true ≡ t
-and-true true = refl
-and-true false = refl
 
 pub by-tests : (x : Float) → not (lt (neg limit) x && lt x limit) ≡ badCoordinate x
 unfolding lt neg badCoordinate ofBits

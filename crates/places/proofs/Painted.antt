@@ -3,14 +3,13 @@
 use mathlib.Core.Path.{_≡_, sym, ap, _∙_}
 use mathlib.Core.Bool.{true, false}
 use Prim.Native.Nat.{ℕ, zero, suc, _+_, _-_, _*_, _/_, _<_, _≤_}
-use native.Mathlib.Nat.{mul-comm, mul-div-mul-right}
+use native.Mathlib.Nat.{mul-div-mul-right}
 use native.Mathlib.Omega.{arith}
 use borrow.Author.Tests.{lt-leb}
 use lib.Dec.{lit<}
 use lib.IntN.{ℤ, pos, _+ℤ_, _-ℤ_, _*ℤ_, *ℤ-zero, +ℤ-idr}
 use lib.Ieee.{Float}
 use lib.Ieee.Exact.{HasValue}
-use Rattle.lists.proofs.Grid.{row-of}
 use Rattle.places.specs.declared.Axis.{Axis}
 use Rattle.places.specs.Rounding.{nearest, toPixel, pixelOf, badCoordinate, in1024ths}
 use Rattle.places.specs.Place.{axisOf, fromMiddle, modulePlace, modulePixel}
@@ -102,16 +101,12 @@ module _ (x0 side c i j : ℕ) (C : 0 < c) where
       ∙ +ℤ-idr (total x0 (side * c) *ℤ pos side +ℤ fromMiddle side i *ℤ pos (2048 * (side * c)))
       ∙ middle-of x0 side c i C
 
-  -- they round to a pixel of their cell (`in-cell`)
+  -- they round to a pixel of their cell
   pub painted-across : 0 < side → modulePixel (axisOf (halfBefore x0) (halfBefore (x0 + side * c)) (halfBefore (x0 + side * c)) (halfBefore x0)) side i j ≡ x0 + c * j + c / 2
   painted-across S = ap (λ (z : ℤ). toPixel z (4096 * side)) place-across ∙ rounded x0 side c j S C
 
   pub painted-down : 0 < side → modulePixel (axisOf (halfBefore x0) (halfBefore x0) (halfBefore (x0 + side * c)) (halfBefore (x0 + side * c))) side i j ≡ x0 + c * i + c / 2
   painted-down S = ap (λ (z : ℤ). toPixel z (4096 * side)) place-down ∙ rounded x0 side c i S C
-
--- that pixel, counted from the tag's first, lies in cell k
-pub in-cell : (c k : ℕ) → 0 < c → (c * k + c / 2) / c ≡ k
-in-cell c k C = ap (λ (n : ℕ). (n + c / 2) / c) (mul-comm c k) ∙ row-of c k (c / 2) (omega arith)
 
 -- ---- a float that lies half a pixel before pixel n
 

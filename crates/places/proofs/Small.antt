@@ -8,9 +8,10 @@ use borrow.Author.Tests.{leb-false}
 use lib.IntN.{ℤ, pos, negℤ, _+ℤ_, _*ℤ_, natAbs}
 use lib.Ieee.{Float, nan, inf, fin, up, down}
 use lib.Ieee.Fits.{down-pos}
+use Rattle.lists.proofs.Bools.{or-left, or-right}
 use Rattle.points.specs.declared.Point.{Point}
 use Rattle.points.specs.declared.Quad.{Quad}
-use Rattle.points.proofs.Any.{or-left, or-right, no-corner}
+use Rattle.points.proofs.Any.{no-corner}
 use Rattle.places.specs.declared.Axis.{Axis}
 use Rattle.places.specs.Rounding.{nearest, signed, badCoordinate, in1024ths}
 use Rattle.places.specs.Corners.{badCorner, badCorners}

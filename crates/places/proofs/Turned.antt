@@ -1,8 +1,8 @@
 -- A quad that starts one corner later: its places are the first quad's, turned once. Module (i, j) of it lies where module
 -- (j, side − 1 − i) of the first lies, since S stays, A becomes −B and B becomes A. Assumes nothing.
-use mathlib.Core.Path.{_≡_, refl, sym, ap, ap₂, _∙_}
+use mathlib.Core.Path.{_≡_, sym, ap, ap₂, _∙_}
 use Prim.Native.Nat.{ℕ, zero, suc, _+_, _-_, _*_, _/_, _%_, _<_}
-use native.Mathlib.Nat.{zero-lt-suc, div-lt-iff-lt-mul, mod-lt, div-add-mod'}
+use native.Mathlib.Nat.{zero-lt-suc, div-lt-iff-lt-mul}
 use native.Mathlib.Omega.{arith}
 use lib.IntN.{ℤ, pos, negℤ, _+ℤ_, _-ℤ_, _*ℤ_}
 use Rattle.lists.proofs.Grid.{row-of, column-of}
@@ -88,26 +88,3 @@ module _ (q : Quad) (edge border k : ℕ) (h : k < edge * edge) where
 
   pub sample-turned-y : samplePixel (axesOf (turnedOnce q) .y) edge border k ≡ samplePixel (axesOf q .y) edge border (k % edge * edge + (edge - 1 - k / edge))
   sample-turned-y = sample-turned (in1024ths (q .q0 .y)) (in1024ths (q .q1 .y)) (in1024ths (q .q2 .y)) (in1024ths (q .q3 .y)) edge border k h
-
--- counted from the last place, what stands in row i and column j stands in row a and column b
-from-last : (e i j a b p : ℕ) → e ≡ i + a + 1 → e ≡ j + b + 1 → p ≡ i * e + j → e * e - 1 - p ≡ a * e + b
-from-last e i j a b p row col at = omega (arith, ap (λ (n : ℕ). n * e) row)
-
--- the first sample is the highest bit: counted from the last place, the map is the same
-pub source-back : (edge p : ℕ) → p < edge * edge
-    → (edge * edge - 1 - p) % edge * edge + (edge - 1 - (edge * edge - 1 - p) / edge) ≡ edge * edge - 1 - (p % edge * edge + (edge - 1 - p / edge))
-source-back edge p h =
-    let E : 0 < edge = positive edge p h in
-    let i = p / edge in
-    let j = p % edge in
-    let a = edge - 1 - i in
-    let b = edge - 1 - j in
-    let hi : i < edge = div-lt-iff-lt-mul E .1 h in
-    let hj : j < edge = mod-lt p E in
-    let hb : b < edge = omega arith in
-    let last : edge * edge - 1 - p ≡ a * edge + b = from-last edge i j a b p (omega arith) (omega arith) (sym (div-add-mod' p edge)) in
-    let back : edge - 1 - a ≡ i = omega arith in
-    ap (λ (n : ℕ). n % edge * edge + (edge - 1 - n / edge)) last
-    ∙ ap₂ (λ (x y : ℕ). x * edge + (edge - 1 - y)) (column-of edge a b hb) (row-of edge a b hb)
-    ∙ ap (λ (n : ℕ). b * edge + n) back
-    ∙ sym (from-last edge j a b i (j * edge + a) (omega arith) (omega arith) refl)

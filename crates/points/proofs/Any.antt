@@ -1,20 +1,14 @@
 -- Laws of a test of all four corners. Assumes nothing.
-use mathlib.Core.Path.{_≡_, refl, _∙_}
-use mathlib.Core.Bool.{Bool, true, false, _||_, true≢false}
+use mathlib.Core.Path.{_≡_, refl, sym, ap, _∙_}
+use mathlib.Core.Bool.{Bool, false, _||_, or-comm, or-assoc}
 use Prim.Native.Nat.{ℕ, zero, suc}
+use Rattle.lists.proofs.Bools.{or-left, or-right}
 use Rattle.points.specs.declared.Point.{Point}
 use Rattle.points.specs.declared.Quad.{Quad}
 use Rattle.points.specs.Turned.{turnedLeft, anyCorner}
 
 around : (a b c d : Bool) → b || c || d || a ≡ a || b || c || d
-around true true c d = refl
-around true false true d = refl
-around true false false true = refl
-around true false false false = refl
-around false true c d = refl
-around false false true d = refl
-around false false false true = refl
-around false false false false = refl
+around a b c d = or-comm (b || c || d) a ∙ sym (or-assoc a (b || c) d) ∙ ap (λ (t : Bool). t || d) (sym (or-assoc a b c))
 
 -- a test of all four corners does not depend on the start
 pub any-turned : (test : Point → Bool) (s : ℕ) (q : Quad) → anyCorner test (turnedLeft s q) ≡ anyCorner test q
@@ -30,14 +24,6 @@ pub record NoCorner (test : Point → Bool) (q : Quad) : Type 0 where
   pub at1 : test (q .q1) ≡ false
   pub at2 : test (q .q2) ≡ false
   pub at3 : test (q .q3) ≡ false
-
-pub or-left : (a b : Bool) → a || b ≡ false → a ≡ false
-or-left true b e = absurd (true≢false e)
-or-left false b e = refl
-
-pub or-right : (a b : Bool) → a || b ≡ false → b ≡ false
-or-right true b e = absurd (true≢false e)
-or-right false b e = e
 
 pub no-corner : (test : Point → Bool) (q : Quad) → anyCorner test q ≡ false → NoCorner test q
 no-corner test q e =

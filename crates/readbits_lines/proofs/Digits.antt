@@ -1,6 +1,6 @@
 -- The loop over a line's digits: it keeps what is still to be tested and to be read. Assumes nothing.
 use mathlib.Core.Path.{_≡_, refl, sym, ap, _∙_}
-use mathlib.Core.Bool.{Bool, true, false, cond, _||_, true≢false}
+use mathlib.Core.Bool.{Bool, true, false, cond, _||_}
 use mathlib.Core.List.{List}
 use Prim.Native.Nat.{ℕ, _+_, _-_, _*_, _^_, _≤_, _<_}
 use native.Mathlib.Numerals.{add-one}
@@ -10,7 +10,7 @@ use lib.Dec.{leb}
 use lib.ListN.{length, drop, getD, drop-of-length-le}
 use lib.Seq.{drop-cons}
 use lib.Pow.{pow-add, pow-mono}
-use Rattle.lists.proofs.All.{and-right}
+use Rattle.lists.proofs.Bools.{and-right}
 use Rattle.readbits_lines.specs.Word.{isDecimal, isLetter, isDigit, digitNumber, numberFrom, numberOf}
 use Rattle.readbits_lines.specs.declared.Hex.{Hex}
 use Rattle.readbits_lines.specs.declared.Hex.the-variants.{Number, Bad}
@@ -24,17 +24,13 @@ pub was-bad : (t : Bool) (n : ℕ) → cond t (Number n) Bad ≡ Bad → t ≡ f
 was-bad true n e = let z : _≡_ {A = ℕ} 0 1 = cc in absurd (omega arith)
 was-bad false n e = refl
 
-other : (a b : Bool) → a ≡ false → a || b ≡ true → b ≡ true
-other true b p e = absurd (true≢false p)
-other false b p e = e
-
 digit-lt : (b : ℕ) → isDigit b ≡ true → digitNumber b < 16
 unfolding isDigit isDecimal isLetter digitNumber
 digit-lt b e = by (isDecimal b) refl
   where
     by : (t : Bool) → isDecimal b ≡ t → cond t (b - 48) (b - 65 + 10) < 16
     by true q = omega (arith, leb-true b 57 (and-right (leb 48 b) (leb b 57) q))
-    by false q = omega (arith, leb-true b 70 (and-right (leb 65 b) (leb b 70) (other (isDecimal b) (isLetter b) q e)))
+    by false q = omega (arith, leb-true b 70 (and-right (leb 65 b) (leb b 70) (ap (λ (t : Bool). t || isLetter b) (sym q) ∙ e)))
 
 module _ (b : ℕ) {r : Hex} (answer : r ≡ cond (isDigit b) (Number (digitNumber b)) Bad) where
   pub was-digit : (d : ℕ) → r ≡ Number d → (isDigit b ≡ true) × (digitNumber b ≡ d) × (d < 16)

@@ -11,7 +11,7 @@ use lib.ListN.{length, take, drop, length-append, length-drop, drop-of-length-le
 use lib.Seq.{take-length, drop-drop}
 use Rattle.bytes.specs.Bytes.{indexOf, indexAfter, slice}
 use Rattle.lists.specs.Tab.{all}
-use Rattle.lists.proofs.All.{and-left}
+use Rattle.lists.proofs.Bools.{and-left}
 use Rattle.readbits_lines.specs.Lines.{before, linesOf}
 use Rattle.readbits_lines.specs.Word.{isDigit, isWord, numberOf}
 use Rattle.readbits_lines.specs.Text.{lineFeed, bad}

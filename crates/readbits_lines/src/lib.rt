@@ -4,7 +4,7 @@ use tag_families::codes::T16H5;
 ghost use mathlib.Core.Path.{_≡_};
 ghost use mathlib.Core.Bool.{cond};
 ghost use mathlib.Core.List.{[], _∷_, _++_};
-ghost use Prim.Native.Nat.{ℕ, _+_, _*_, _≤_, _<_};
+ghost use Prim.Native.Nat.{_+_, _*_, _≤_, _<_};
 ghost use lib.ListN.{length};
 ghost use Rattle.readbits_lines.specs.Word.{isDigit, digitNumber, isWord, numberOf};
 ghost use Rattle.readbits_lines.specs.Text.{space, lineFeed, decimal};

@@ -9,7 +9,8 @@ use Rattle.lists.proofs.Rows.{tabulate-ext}
 use Rattle.lists.specs.Tab.{tabulate}
 use Rattle.lists.specs.Each.{each}
 use Rattle.lists.proofs.Tab.{length-tabulate, getD-tabulate}
-use Rattle.lists.proofs.Each.{same-test, each-at, each-of}
+use Rattle.lists.proofs.Bools.{same-test}
+use Rattle.lists.proofs.Each.{each-at, each-of}
 use Rattle.refusals.specs.Outcome.{Outcome, accepted, refused}
 use Rattle.refusals.specs.Pixels.{levelAt}
 use Rattle.refusals.specs.declared.Frame.{Frame}

@@ -6,7 +6,7 @@ use native.Mathlib.Nat.{mul-le-mul, zero-lt-suc}
 use native.Mathlib.Omega.{arith}
 use borrow.Author.Tests.{eqb-true, eqb-false, ltb-false, not-false}
 use lib.Dec.{ltb, eqb}
-use Rattle.lists.proofs.All.{or-left, or-right}
+use Rattle.lists.proofs.Bools.{or-left, or-right}
 use Rattle.refusals.specs.Plane.{badSides, badPlane}
 
 pub record Sides (width height : ℕ) : Type 0 where

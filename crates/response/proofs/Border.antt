@@ -1,6 +1,6 @@
 -- On and off the border. Assumes nothing.
 use mathlib.Core.Path.{_≡_, refl, sym, ap, ap₂, _∙_}
-use mathlib.Core.Bool.{Bool, true, false, _||_, cond, true≢false}
+use mathlib.Core.Bool.{Bool, true, false, _||_, cond, or-true}
 use mathlib.Core.List.{List}
 use Prim.Native.Nat.{ℕ, _+_, _-_, _*_, _<_}
 use native.Mathlib.Omega.{arith}
@@ -9,26 +9,15 @@ use lib.Dec.{eqb}
 use lib.ListN.{getD, take, drop}
 use lib.Ieee.{Float, nan}
 use Rattle.lists.specs.Tab.{tabulate}
+use Rattle.lists.proofs.Bools.{or-left, or-right}
 use Rattle.lists.proofs.Grid.{row-of, column-of}
 use Rattle.samples.specs.Samples.{zeroF}
 use Rattle.lists.proofs.Rows.{tabulate-ext, row-read}
 use Rattle.response.specs.Response.{atEnd, determinantAt, responseAt}
 use Rattle.response.specs.Steps.{rowResponse}
 
-or-left : (a b : Bool) → a || b ≡ false → a ≡ false
-or-left true b e = e
-or-left false b e = refl
-
-or-right : (a b : Bool) → a || b ≡ false → b ≡ false
-or-right true b e = absurd (true≢false e)
-or-right false b e = e
-
 pub first-end : (n p : ℕ) → p ≡ 0 → atEnd n p ≡ true
 first-end n p e = simp (eq-eqb p 0 e)
-
-or-true : (a : Bool) → a || true ≡ true
-or-true true = refl
-or-true false = refl
 
 pub last-end : (n p : ℕ) → p + 1 ≡ n → atEnd n p ≡ true
 last-end n p e = rw (eq-eqb (p + 1) n e) (or-true (eqb p 0))

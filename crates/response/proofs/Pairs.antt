@@ -6,13 +6,12 @@ use Prim.Native.Nat.{ℕ, _+_, _-_, _*_, _≤_, _<_}
 use native.Mathlib.Nat.{mul-comm, mul-le-mul-right}
 use native.Mathlib.Omega.{arith}
 use lib.ListN.{length, take, drop, set, length-set, length-drop, take-append-drop}
-use lib.Seq.{take-set-le, drop-set-lt, drop-set-add, length-take-le, take-append-add, take-at}
+use lib.Seq.{take-set-le, drop-set-lt, drop-set-add}
 use lib.Ieee.{Float}
 use Rattle.lists.specs.Tab.{tabulate}
 use Rattle.lists.proofs.Grid.{next-row}
-use Rattle.lists.proofs.Tab.{length-tabulate, written-none, written-more, written-all}
-use Rattle.lists.proofs.Part.{back, length-back}
-use Rattle.lists.proofs.Rows.{Written, tabulate-ext, tabulate-add}
+use Rattle.lists.proofs.Tab.{written-none, written-more, written-all}
+use Rattle.lists.proofs.Rows.{tabulate-ext, tabulate-add}
 use Rattle.response.proofs.Border.{off-end, inner-row}
 use Rattle.response.specs.Response.{responseAt}
 use Rattle.response.specs.Steps.{rowResponse}
@@ -48,44 +47,12 @@ module _ {ℓ} {A : Type ℓ} where
         let m : length (drop n pair) ≡ n = omega (arith, length-drop n pair, r .whole) in
         sym (take-append-drop n pair) ∙ ap₂ _++_ (rw e at (r .upper)) (written-all g x n (drop n pair) m e (r .lower))
 
-  -- of a plane w wide and h high, given by f, the first y rows are written, and behind them the m places that lead to row z
-  module _ (f : ℕ → A) (w h y z m k : ℕ) (out part : List A) (b : z ≤ h) (up : y * w + m ≡ z * w) (e : k ≡ m) (is : part ≡ tabulate m (λ p. f (y * w + p))) (r : Written f w h y out) where
-    fits : y * w + m ≤ length out
-    fits = omega (arith, r .whole, up, mul-le-mul-right w b, mul-comm w h)
-
-    wide : length part ≡ m
-    wide = ap length is ∙ length-tabulate m _
-
-    written : take (z * w) (back out (y * w) k part) ≡ tabulate (z * w) f
-    written =
-        let n = length-take-le (y * w) out (omega (arith, fits)) in
-        let rest = drop k (drop (y * w) out) in
-        ap (λ (j : ℕ). take j (back out (y * w) k part)) (sym up ∙ ap (λ (j : ℕ). j + m) (sym n))
-        ∙ take-append-add (take (y * w) out) (part ++ rest) m
-        ∙ ap (λ (l : List A). take (y * w) out ++ l) (take-at part rest m wide)
-        ∙ (rw (r .done, is) (sym (tabulate-add (y * w) m f)))
-        ∙ ap (λ (j : ℕ). tabulate j f) up
-
-    pub rows-up-to : Written f w h z (back out (y * w) k part)
-    rows-up-to =
-        record {
-          low = b;
-          whole = length-back out part (y * w) k (rw e fits) (wide ∙ sym e) ∙ r .whole;
-          done = written;
-        }
-
--- the rows y and y + 1: they end where row y + 2 starts, lie in the plane, and are two rows long
-pub two-rows : (w y : ℕ) → y * w + (w + w) ≡ (y + 2) * w
+-- the rows y and y + 1: they end where row y + 2 starts, and lie in the plane
+pub two-rows : (w y : ℕ) → y * w + w + w ≡ (y + 2) * w
 two-rows w y = omega (arith, next-row w y, next-row w (y + 1), (let e : y + 1 + 1 ≡ y + 2 = omega arith in ap (λ (k : ℕ). k * w) e))
 
 pub pair-fits : (w h y : ℕ) → y + 2 ≤ h → y * w + w + w ≤ w * h
 pair-fits w h y b = omega (arith, two-rows w y, mul-le-mul-right w b, mul-comm w h)
-
-pub pair-span : (w y : ℕ) → y * w + w + w - y * w ≡ w + w
-pair-span w y = omega arith
-
-pub pair-length : (l : List Float) (w y : ℕ) → y * w + w + w ≤ length l → length (take (y * w + w + w - y * w) (drop (y * w) l)) ≡ w + w
-pair-length l w y fits = length-take-le _ (drop (y * w) l) (omega (arith, length-drop (y * w) l)) ∙ pair-span w y
 
 -- the response in the rows y and y + 1, by the samples of those rows and of the ones above and below them
 module _ (img : List Float) (w h y : ℕ) (l : 0 < y) (b : y + 2 < h) where

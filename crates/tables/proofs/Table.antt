@@ -1,15 +1,14 @@
 -- What a table that refusal 6 lets through is like. Assumes nothing.
-use mathlib.Core.Path.{_≡_, refl, sym, ap, _∙_}
-use mathlib.Core.Bool.{Bool, true, false, not, _||_}
+use mathlib.Core.Path.{_≡_}
+use mathlib.Core.Bool.{false, not, _||_}
 use mathlib.Core.List.{List}
 use Prim.Native.Nat.{ℕ, _*_, _^_, _<_, _≤_}
-use native.Mathlib.Nat.{mul-le-mul}
-use native.Mathlib.Omega.{arith}
 use borrow.Author.Tests.{ltb-true, ltb-false, not-false}
 use lib.Dec.{ltb}
 use lib.ListN.{length, getD}
 use Rattle.lists.specs.Tab.{all}
-use Rattle.lists.proofs.All.{all-at, or-left, or-right}
+use Rattle.lists.proofs.Bools.{or-left, or-right}
+use Rattle.lists.proofs.All.{all-at}
 use Rattle.tables.specs.Table.{outside, badEdge, badBorder, inSquare, badCodes, badTable}
 use Rattle.tables.specs.declared.Family.{Family}
 

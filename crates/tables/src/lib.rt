@@ -1,7 +1,7 @@
 // A table: a list of codes, and what a reader has to know of it. Refusal 6 says which tables are taken.
 ghost use mathlib.Core.Path.{_≡_};
-ghost use mathlib.Core.Bool.{Bool, false};
-ghost use Prim.Native.Nat.{_^_, _<_, _≤_};
+ghost use mathlib.Core.Bool.{false};
+ghost use Prim.Native.Nat.{_^_, _<_};
 ghost use Rattle.lists.specs.Tab.{all};
 ghost use Rattle.tables.specs.Table.{outside, badEdge, badBorder, below, inSquare, badCodes, badTable};
 

@@ -1,8 +1,8 @@
 -- Floats that are equal as numbers have one threshold, also +0.0 and -0.0. Assumes nothing.
 use mathlib.Core.Path.{_≡_, refl, sym, ap, _∙_, subst}
-use mathlib.Core.Bool.{Bool, true, false, _&&_, _||_, cond, Bool·beq, true≢false}
+use mathlib.Core.Bool.{Bool, true, false, _&&_, _||_, cond, Bool·beq, true≢false, or-true}
 use Prim.Native.Nat.{ℕ, _-_, _*_, _/_, _^_, _<_}
-use native.Mathlib.Nat.{mul-assoc, mul-left-comm, mul-right-comm, mul-pos, zero-mul, eq-of-mul-eq-mul-right}
+use native.Mathlib.Nat.{mul-assoc, mul-left-comm, mul-right-comm, mul-pos, zero-mul}
 use borrow.Author.Tests.{eqb-true}
 use lib.Dec.{T, eqb, lit<}
 use lib.Pow.{pow-pos}
@@ -14,6 +14,7 @@ use lib.Ieee.Nearest.{closest-same, div-same}
 use lib.Ieee.Scale.{finite}
 use Rattle.samples.specs.Samples.{zeroF}
 use Rattle.threshold.specs.Threshold.{twentieth, thresholdOf}
+use Rattle.threshold.proofs.Order.{no-factor}
 
 -- equal fractions are rounded alike
 round-same : (f : Format) (s : Bool) (a b c d : ℕ) → 0 < b → 0 < d → a * d ≡ c * b → round f s a b ≡ round f s c d
@@ -39,20 +40,13 @@ mul-same f s m e n d t c g h =
         simp mul-assoc (simp (mul-assoc, mul-left-comm) at j)
 
 -- a zero fraction is rounded to a zero
-none : (a k : ℕ) → 0 < k → a * k ≡ 0 → a ≡ 0
-none a k p e = eq-of-mul-eq-mul-right k p a 0 (e ∙ sym (zero-mul k))
-
 is-zero : (x : Float) (s : Bool) (c : ℕ) → 0 < c → HasValue x s 0 c → eq x zeroF ≡ true
 unfolding eq ofBits
 is-zero nan s c p h = absurd h
 is-zero (inf t) s c p h = absurd h
 is-zero (fin t m e) s c p h =
-    let z : m * up e ≡ 0 = none (m * up e) c p (h .1 ∙ zero-mul (down e)) in
+    let z : m * up e ≡ 0 = no-factor (m * up e) c p (h .1 ∙ zero-mul (down e)) in
     rw (z, zero-mul (down e)) (or-true (Bool·beq t false))
-  where
-    or-true : (a : Bool) → a || true ≡ true
-    or-true true = refl
-    or-true false = refl
 
 round-zero : (s : Bool) (den : ℕ) → 0 < den → eq (round binary32 s 0 den) zeroF ≡ true
 round-zero s den p =
@@ -97,7 +91,7 @@ settled-same (fin s m e) (inf t) a b h = absurd b
 settled-same (fin s m e) (fin t n d) a b h =
     level-is s (m * up e * down d) t (n * up d * down e)
     (λ q i. subst (λ (u : Bool). settled (product (fin s m e)) ≡ settled (product (fin u n d))) q (ap settled (mul-same binary32 s m e n d false 13421773 (negsuc 27) i)))
-    (λ i j. both-zero (product (fin s m e)) (product (fin t n d)) (mul-zero s m e false 13421773 (negsuc 27) (none (m * up e) (down d) (down-pos d) i)) (mul-zero t n d false 13421773 (negsuc 27) (none (n * up d) (down e) (down-pos e) j)))
+    (λ i j. both-zero (product (fin s m e)) (product (fin t n d)) (mul-zero s m e false 13421773 (negsuc 27) (no-factor (m * up e) (down d) (down-pos d) i)) (mul-zero t n d false 13421773 (negsuc 27) (no-factor (n * up d) (down e) (down-pos e) j)))
     h
 
 -- what equals a finite float is finite

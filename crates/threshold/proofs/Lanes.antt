@@ -13,6 +13,7 @@ use lib.Seq.{getD-drop, drop-cons, drop-drop}
 use lib.Ieee.{Float, nan, inf, fin, neg, ofBits, lt, eq, le}
 use lib.Ieee.Scale.{finite}
 use Rattle.lists.specs.Tab.{all, tabulate}
+use Rattle.lists.proofs.All.{all-at}
 use Rattle.lists.proofs.Tab.{length-tabulate, getD-tabulate}
 use Rattle.samples.specs.Samples.{tame}
 use Rattle.threshold.specs.Threshold.{lesser, lowestOf, lowest}
@@ -31,18 +32,7 @@ abbrev pub Finite : List Float → Type 0
 Finite l = (i : ℕ) → i < length l → T (finite (getD l i nan))
 
 pub all-finite : (l : List Float) → all tame l ≡ true → Finite l
-unfolding all
-all-finite [] h i b = absurd (not-suc-le-zero b)
-all-finite (v ∷ vs) h zero b = tame-finite v (first (tame v) (all tame vs) h)
-  where
-    first : (x y : Bool) → x && y ≡ true → x ≡ true
-    first true y e = refl
-    first false y e = e
-all-finite (v ∷ vs) h (suc i) b = all-finite vs (second (tame v) (all tame vs) h) i (le-of-suc-le-suc b)
-  where
-    second : (x y : Bool) → x && y ≡ true → y ≡ true
-    second true y e = e
-    second false y e = absurd (true≢false (sym e))
+all-finite l h i b = tame-finite (getD l i nan) (all-at tame l i nan h b)
 
 -- ---- the lesser of two
 module _ (a b : Float) (fa : T (finite a)) (fb : T (finite b)) where

@@ -10,6 +10,7 @@ use lib.IntN.{ℤ}
 use lib.Ieee.{Float, nan, inf, fin, up, down, below, level, lt, eq, le}
 use lib.Ieee.Scale.{finite}
 use lib.Ieee.Fits.{down-pos}
+use Rattle.lists.proofs.Bools.{and-parts}
 
 -- ---- numbers with a sign, ±a and ±b
 abbrev most : Bool → ℕ → Bool → ℕ → Bool
@@ -32,14 +33,10 @@ one-of : (x y : Bool) → (x ≡ false → y ≡ true) → x || (y && true) ≡ 
 one-of true y e = refl
 one-of false y e = rw (e refl)
 
-both : (x y : Bool) → x && y ≡ true → (x ≡ true) × (y ≡ true)
-both true y e = (refl, e)
-both false y e = absurd (true≢false (sym e))
-
 most-is : (s : Bool) (a : ℕ) (t : Bool) (b : ℕ) → most s a t b ≡ true → Most s a t b
 most-is false a false b h = either (ltb a b) (eqb a b) (λ e. let l = ltb-true a b e in omega arith) (λ e. le-of-eq (eqb-true a b e)) h
 most-is false a true b h =
-    let q = both (eqb a b) (eqb a 0) h in
+    let q = and-parts (eqb a b) (eqb a 0) h in
     let z = eqb-true a 0 (q .1) in
     (z, sym (eqb-true a b (q .0)) ∙ z)
 most-is true a false b h = tt
@@ -73,7 +70,7 @@ Most-scale false a true b k h = (ap (λ (z : ℕ). z * k) (h .0) ∙ zero-mul k,
 Most-scale true a false b k h = tt
 Most-scale true a true b k h = mul-le-mul-right k h
 
-no-factor : (a k : ℕ) → 0 < k → a * k ≡ 0 → a ≡ 0
+pub no-factor : (a k : ℕ) → 0 < k → a * k ≡ 0 → a ≡ 0
 no-factor a k pos e = eq-of-mul-eq-mul-right k pos a 0 (e ∙ sym (zero-mul k))
 
 Most-cancel : (s : Bool) (a : ℕ) (t : Bool) (b k : ℕ) → 0 < k → Most s (a * k) t (b * k) → Most s a t b

@@ -108,14 +108,6 @@ pub differing-comm : (n a b : ℕ) → differingIn n a b ≡ differingIn n b a
 unfolding differingIn
 differing-comm n a b = sum-ext n (λ k. differ (bit a k) (bit b k)) (λ k. differ (bit b k) (bit a k)) (λ k l. differ-comm (bit a k) (bit b k))
 
-differ-self : (x : ℕ) → differ x x ≡ 0
-differ-self zero = refl
-differ-self (suc x) = differ-self x
-
-pub differing-self : (n a : ℕ) → differingIn n a a ≡ 0
-unfolding differingIn
-differing-self n a = sum-ext n (λ k. differ (bit a k) (bit a k)) (λ k. 0) (λ k l. differ-self (bit a k)) ∙ sum-none n
-
 one-each : (n : ℕ) → sum n (λ k. 1) ≡ n
 unfolding sum
 one-each zero = refl

@@ -6,7 +6,7 @@ use native.Mathlib.Omega.{arith}
 use lib.Arith.{digits-lt, digits-div, digits-mod}
 use Rattle.lists.specs.Sum.{sum}
 use Rattle.lists.proofs.Sum.{sum-ext, sum-rows, sum-swap, sum-back}
-use Rattle.word.specs.Word.{bit, word, source, turn, turns}
+use Rattle.word.specs.Word.{bit, source, turn, turns}
 use Rattle.word.proofs.Bits.{bit-lt, bit-mod, bit-word, word-lt, word-ext, same-bits}
 
 module _ (e : ℕ) where

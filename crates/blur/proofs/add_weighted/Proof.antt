@@ -28,30 +28,6 @@ loop-holds c =
     let a = c .args in
     (omega arith, refl, kept-none (at (now (a .sums)) (now (a .samples)) (a .weight)) (now (a .sums)))
 
-mul-sums : tie.Need-mul-sums Inv-loop μ-loop
-mul-sums c = search needs
-
-slice-read-sums : tie.Need-slice-read-sums Inv-loop μ-loop
-slice-read-sums c = search needs
-
-mul-sums-2 : tie.Need-mul-sums-2 Inv-loop μ-loop
-mul-sums-2 c = search needs
-
-shared-slice-read-sums : tie.Need-shared-slice-read-sums Inv-loop μ-loop
-shared-slice-read-sums c = search needs
-
-mul-sums-3 : tie.Need-mul-sums-3 Inv-loop μ-loop
-mul-sums-3 c = search needs
-
-slice-write-sums : tie.Need-slice-write-sums Inv-loop μ-loop
-slice-write-sums c = search needs
-
-add-i : tie.Need-add-i Inv-loop μ-loop
-add-i c = search needs
-
-loop-less : tie.Need-loop-less Inv-loop μ-loop
-loop-less c = search needs
-
 loop-again : tie.Need-loop-again Inv-loop μ-loop
 loop-again c =
     let t = c .before .before in
@@ -80,14 +56,14 @@ add-weighted-spec =
     Inv-loop
     μ-loop
     loop-holds
-    mul-sums
-    slice-read-sums
-    mul-sums-2
-    shared-slice-read-sums
-    mul-sums-3
-    slice-write-sums
-    add-i
-    loop-less
+    (λ c. search needs)  -- mul-sums
+    (λ c. search needs)  -- slice-read-sums
+    (λ c. search needs)  -- mul-sums-2
+    (λ c. search needs)  -- shared-slice-read-sums
+    (λ c. search needs)  -- mul-sums-3
+    (λ c. search needs)  -- slice-write-sums
+    (λ c. search needs)  -- add-i
+    (λ c. search needs)  -- loop-less
     loop-again
     same-length
     returns)

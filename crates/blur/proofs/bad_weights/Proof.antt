@@ -14,12 +14,13 @@ returns-2 : tie.Need-returns-2
 unfolding badWeights
 returns-2 c = simp (ne-eqb _ _ (c .before .if1 .left), lt-ltb _ _ (c .if2 .taken))
 
-all-in-unit-requires : tie.Need-all-in-unit-requires
-all-in-unit-requires c κs = search needs
-
 returns-3 : tie.Need-returns-3
 unfolding badWeights
 returns-3 c = simp (ne-eqb _ _ (c .before .before .if1 .left), le-ltb _ _ (c .before .if2 .left), sym (c .all-in-unit .ensures))
 
 pub bad-weights-spec : {M : Type 1} → statement M
-bad-weights-spec = tie.close (tie.spec returns returns-2 all-in-unit-requires returns-3)
+bad-weights-spec = tie.close (tie.spec
+    returns
+    returns-2
+    (λ c κs. search needs)  -- all-in-unit-requires
+    returns-3)

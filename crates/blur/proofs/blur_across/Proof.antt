@@ -6,12 +6,12 @@ use Prim.Native.Nat.{_+_, _-_, _*_, _≤_}
 use native.Mathlib.Omega.{arith}
 use Rattle.blur.specs.Blur.{acrossAt}
 use Rattle.blur.proofs.Lines.{across-row}
-use Rattle.lists.proofs.Rows.{Written, rows-none, rows-more, rows-all, row-fits, row-span, row-length}
+use Rattle.lists.proofs.Rows.{Filled, rows-none, rows-more, rows-all, row-fits, row-span, row-length}
 use Rattle.blur.proofs.blur_across.Statement.{statement}
 use Rattle.blur.proofs.blur_across.Tie as tie
 
 abbrev Inv-loop : tie.InvT-loop
-Inv-loop img width height weights temp₀ y₀ temp y = Written (acrossAt img width weights) width height y temp
+Inv-loop img width height weights temp₀ y₀ temp y = Filled (acrossAt img width weights) (width * height) (y * width) temp
 
 abbrev μ-loop : tie.MeasureT-loop
 μ-loop img width height weights temp₀ y₀ temp y = height - y
@@ -37,23 +37,11 @@ add-end c = omega (arith, fits c, St c .pre .1, St c .good .0 .0)
 mul-blur-row : tie.Need-mul-blur-row Inv-loop μ-loop
 mul-blur-row c = omega (arith, fits c, St c .pre .1, St c .good .0 .1)
 
-sub-blur-row : tie.Need-sub-blur-row Inv-loop μ-loop
-sub-blur-row c = search needs
-
-part-blur-row-start : tie.Need-part-blur-row-start Inv-loop μ-loop
-part-blur-row-start c = search needs
-
 part-blur-row-end : tie.Need-part-blur-row-end Inv-loop μ-loop
 part-blur-row-end c = omega (arith, fits c, c .before .loop .inv .whole)
 
 mul-blur-row-2 : tie.Need-mul-blur-row-2 Inv-loop μ-loop
 mul-blur-row-2 c = omega (arith, fits (c .before), St (c .before) .pre .1, St (c .before) .good .0 .1)
-
-sub-blur-row-2 : tie.Need-sub-blur-row-2 Inv-loop μ-loop
-sub-blur-row-2 c = search needs
-
-part-blur-row-start-2 : tie.Need-part-blur-row-start-2 Inv-loop μ-loop
-part-blur-row-start-2 c = search needs
 
 part-blur-row-end-2 : tie.Need-part-blur-row-end-2 Inv-loop μ-loop
 part-blur-row-end-2 c = omega (arith, fits (c .before), St (c .before) .pre .1)
@@ -67,12 +55,6 @@ blur-row-requires c κs =
     let b = row-length (t .before .loop .temp) w y _ (row-span w y) (omega (arith, fits t, t .before .loop .inv .whole)) in
     (a ∙ sym b, omega (arith, a, St t .pre .0))
 
-add-y : tie.Need-add-y Inv-loop μ-loop
-add-y c = search needs
-
-loop-less : tie.Need-loop-less Inv-loop μ-loop
-loop-less c = search needs
-
 loop-again : tie.Need-loop-again Inv-loop μ-loop
 loop-again c =
     let r = c .before .before in
@@ -81,7 +63,7 @@ loop-again c =
     let w = a .width in
     let l = t .before .loop in
     let b = row-length (l .temp) w (l .y) _ (row-span w (l .y)) (omega (arith, fits t, l .inv .whole)) in
-    rows-more (acrossAt (now (a .img)) w (now (a .weights))) w (a .height) (l .y) _ (l .temp) (r .blur-row .last .0) (t .loop-test .taken) (row-span w (l .y))
+    rows-more (acrossAt (now (a .img)) w (now (a .weights))) w (a .height) (l .y) (l .temp) (r .blur-row .last .0) (t .loop-test .taken)
     (r .blur-row .ensures ∙ across-row (now (a .img)) (now (a .weights)) w (l .y) (St t .pre .0) _ _ b (row-span w (l .y)))
     (l .inv)
 
@@ -104,16 +86,16 @@ blur-across-spec =
     mul-start
     add-end
     mul-blur-row
-    sub-blur-row
-    part-blur-row-start
+    (λ c. search needs)  -- sub-blur-row
+    (λ c. search needs)  -- part-blur-row-start
     part-blur-row-end
     mul-blur-row-2
-    sub-blur-row-2
-    part-blur-row-start-2
+    (λ c. search needs)  -- sub-blur-row-2
+    (λ c. search needs)  -- part-blur-row-start-2
     part-blur-row-end-2
     blur-row-requires
-    add-y
-    loop-less
+    (λ c. search needs)  -- add-y
+    (λ c. search needs)  -- loop-less
     loop-again
     same-length
     returns)

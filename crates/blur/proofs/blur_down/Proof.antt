@@ -9,12 +9,12 @@ use lib.Ieee.{nan}
 use Rattle.lists.specs.Tab.{tabulate}
 use Rattle.blur.specs.Blur.{along, downAt}
 use Rattle.blur.proofs.Lines.{down-row}
-use Rattle.lists.proofs.Rows.{Written, rows-none, rows-more, rows-all, row-fits, row-span, row-length}
+use Rattle.lists.proofs.Rows.{Filled, rows-none, rows-more, rows-all, row-fits, row-span, row-length}
 use Rattle.blur.proofs.blur_down.Statement.{statement}
 use Rattle.blur.proofs.blur_down.Tie as tie
 
 abbrev Inv-loop : tie.InvT-loop
-Inv-loop img width height weights out₀ y₀ out y = Written (downAt img width height weights) width height y out
+Inv-loop img width height weights out₀ y₀ out y = Filled (downAt img width height weights) (width * height) (y * width) out
 
 abbrev μ-loop : tie.MeasureT-loop
 μ-loop img width height weights out₀ y₀ out y = height - y
@@ -40,12 +40,6 @@ add-end c = omega (arith, fits c, c .before .loop .inv .whole, St c .pre .1, St 
 mul-blur-row-down : tie.Need-mul-blur-row-down Inv-loop μ-loop
 mul-blur-row-down c = omega (arith, fits c, c .before .loop .inv .whole, St c .pre .1, St c .good .0 .1)
 
-sub-blur-row-down : tie.Need-sub-blur-row-down Inv-loop μ-loop
-sub-blur-row-down c = search needs
-
-part-blur-row-down-start : tie.Need-part-blur-row-down-start Inv-loop μ-loop
-part-blur-row-down-start c = search needs
-
 part-blur-row-down-end : tie.Need-part-blur-row-down-end Inv-loop μ-loop
 part-blur-row-down-end c = omega (arith, fits c)
 
@@ -57,12 +51,6 @@ blur-row-down-requires c κs =
     let b = row-length (t .before .loop .out) w (t .before .loop .y) _ (row-span w (t .before .loop .y)) (fits t) in
     (omega (arith, b, s .pre .0), t .loop-test .taken, s .pre .1 ∙ ap (λ (n : ℕ). n * s .args .height) (sym b), s .pre .3, s .pre .4)
 
-add-y : tie.Need-add-y Inv-loop μ-loop
-add-y c = search needs
-
-loop-less : tie.Need-loop-less Inv-loop μ-loop
-loop-less c = search needs
-
 loop-again : tie.Need-loop-again Inv-loop μ-loop
 loop-again c =
     let r = c .before .before in
@@ -71,7 +59,7 @@ loop-again c =
     let w = a .width in
     let l = t .before .loop in
     let b = row-length (l .out) w (l .y) _ (row-span w (l .y)) (fits t) in
-    rows-more (downAt (now (a .img)) w (a .height) (now (a .weights))) w (a .height) (l .y) _ (l .out) (r .blur-row-down .last .0) (t .loop-test .taken) (row-span w (l .y))
+    rows-more (downAt (now (a .img)) w (a .height) (now (a .weights))) w (a .height) (l .y) (l .out) (r .blur-row-down .last .0) (t .loop-test .taken)
     (r .blur-row-down .ensures
     ∙ ap (λ (n : ℕ). tabulate n (λ x. along (now (a .weights)) (a .height) (λ i. getD (now (a .img)) (i * n + x) nan) (l .y))) b
     ∙ down-row (now (a .img)) (now (a .weights)) w (l .y) (St t .pre .0) (a .height))
@@ -96,12 +84,12 @@ blur-down-spec =
     mul-start
     add-end
     mul-blur-row-down
-    sub-blur-row-down
-    part-blur-row-down-start
+    (λ c. search needs)  -- sub-blur-row-down
+    (λ c. search needs)  -- part-blur-row-down-start
     part-blur-row-down-end
     blur-row-down-requires
-    add-y
-    loop-less
+    (λ c. search needs)  -- add-y
+    (λ c. search needs)  -- loop-less
     loop-again
     same-length
     returns)

@@ -93,19 +93,10 @@ loop-again c =
 blur-sample-requires : tie.Need-blur-sample-requires Inv-loop μ-loop
 blur-sample-requires c κs = c .before .before .loop-test .taken
 
-mul-row : tie.Need-mul-row Inv-loop μ-loop
-mul-row c = search needs
-
 slice-write-row : tie.Need-slice-write-row Inv-loop μ-loop
 slice-write-row c =
     let t = c .before .before .before in
     omega (arith, t .loop-test .taken, t .before .loop .inv .whole)
-
-add-x : tie.Need-add-x Inv-loop μ-loop
-add-x c = search needs
-
-loop-less-2 : tie.Need-loop-less-2 Inv-loop μ-loop
-loop-less-2 c = search needs
 
 loop-again-2 : tie.Need-loop-again-2 Inv-loop μ-loop
 loop-again-2 c =
@@ -149,10 +140,10 @@ blur-row-spec =
     loop-less
     loop-again
     blur-sample-requires
-    mul-row
+    (λ c. search needs)  -- mul-row
     slice-write-row
-    add-x
-    loop-less-2
+    (λ c. search needs)  -- add-x
+    (λ c. search needs)  -- loop-less-2
     loop-again-2
     same-length
     returns)

@@ -22,9 +22,6 @@ r c = radius (now (St c .args .weights))
 fits : (c : tie.Then1) → (r c ≤ St c .args .y) × (r c < St c .args .height - St c .args .y)
 fits c = c .before .inside .ensures (c .if1 .taken)
 
-inside-requires : tie.Need-inside-requires
-inside-requires c κs = search needs
-
 sub-sum-blocks : tie.Need-sub-sum-blocks
 sub-sum-blocks c = fits (c .before) .0
 
@@ -43,12 +40,6 @@ sum-blocks-requires c κs =
     let b = row-fits w (s .args .height) (k + y) (omega (arith, fits (c .before) .0, fits (c .before) .1)) in
     omega (arith, b, add-mul k y w, s .pre .2)
 
-sum-rows-requires : tie.Need-sum-rows-requires
-sum-rows-requires c κs = search needs
-
-same-length : tie.Need-same-length
-same-length c = search needs
-
 returns : tie.Need-returns
 returns c =
     let q = c .before .before in
@@ -56,22 +47,17 @@ returns c =
     let a = St t .args in
     q .sum-blocks .ensures ∙ down-inner (now (a .img)) (now (a .weights)) (length (now (a .row))) (a .height) (a .y) (fits t .0) (omega (arith, fits t .1))
 
-same-length-2 : tie.Need-same-length-2
-same-length-2 c = search needs
-
-returns-2 : tie.Need-returns-2
-returns-2 c = search needs
-
 pub blur-row-down-spec : {M : Type 1} → statement M
 blur-row-down-spec =
     tie.close
     (tie.spec
-    inside-requires
+    (λ c κs. search needs)  -- inside-requires
     sub-sum-blocks
     mul-sum-blocks
     sum-blocks-requires
-    sum-rows-requires
-    same-length
+    (λ c κs. search needs)  -- sum-rows-requires
+    (λ c. search needs)  -- same-length
     returns
-    same-length-2
-    returns-2)
+    (λ c. search needs)  -- same-length-2
+    (λ c. search needs)  -- returns-2
+    )

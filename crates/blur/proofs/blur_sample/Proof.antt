@@ -27,30 +27,6 @@ loop-holds c =
     let a = c .before .before .args in
     (omega arith, sum-none (now (a .weights)) (tap (now (a .samples)) (now (a .weights)) (a .x)))
 
-add-repeated-place : tie.Need-add-repeated-place Inv-loop μ-loop
-add-repeated-place c = search needs
-
-repeated-place-requires : tie.Need-repeated-place-requires Inv-loop μ-loop
-repeated-place-requires c κs = search needs
-
-mul-sum : tie.Need-mul-sum Inv-loop μ-loop
-mul-sum c = search needs
-
-shared-slice-read-sum : tie.Need-shared-slice-read-sum Inv-loop μ-loop
-shared-slice-read-sum c = search needs
-
-mul-sum-2 : tie.Need-mul-sum-2 Inv-loop μ-loop
-mul-sum-2 c = search needs
-
-shared-slice-read-sum-2 : tie.Need-shared-slice-read-sum-2 Inv-loop μ-loop
-shared-slice-read-sum-2 c = search needs
-
-add-k : tie.Need-add-k Inv-loop μ-loop
-add-k c = search needs
-
-loop-less : tie.Need-loop-less Inv-loop μ-loop
-loop-less c = search needs
-
 loop-again : tie.Need-loop-again Inv-loop μ-loop
 loop-again c =
     let q = c .before .before in
@@ -77,13 +53,13 @@ blur-sample-spec =
     Inv-loop
     μ-loop
     loop-holds
-    add-repeated-place
-    repeated-place-requires
-    mul-sum
-    shared-slice-read-sum
-    mul-sum-2
-    shared-slice-read-sum-2
-    add-k
-    loop-less
+    (λ c. search needs)  -- add-repeated-place
+    (λ c κs. search needs)  -- repeated-place-requires
+    (λ c. search needs)  -- mul-sum
+    (λ c. search needs)  -- shared-slice-read-sum
+    (λ c. search needs)  -- mul-sum-2
+    (λ c. search needs)  -- shared-slice-read-sum-2
+    (λ c. search needs)  -- add-k
+    (λ c. search needs)  -- loop-less
     loop-again
     returns)

@@ -8,11 +8,9 @@ use Rattle.blur.proofs.inside.Tie as tie
 returns : tie.Need-returns
 returns c e = absurd (true≢false (sym e))
 
-sub-result : tie.Need-sub-result
-sub-result c = search needs
-
-returns-2 : tie.Need-returns-2
-returns-2 c = search needs
-
 pub inside-spec : {M : Type 1} → statement M
-inside-spec = tie.close (tie.spec returns sub-result returns-2)
+inside-spec = tie.close (tie.spec
+    returns
+    (λ c. search needs)  -- sub-result
+    (λ c. search needs)  -- returns-2
+    )

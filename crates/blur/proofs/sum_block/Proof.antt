@@ -4,21 +4,6 @@ use mathlib.Core.Path.{_∙_}
 use Rattle.blur.proofs.sum_block.Statement.{statement}
 use Rattle.blur.proofs.sum_block.Tie as tie
 
-slice-aggregate-sum-taps : tie.Need-slice-aggregate-sum-taps
-slice-aggregate-sum-taps c = search needs
-
-sum-taps-requires : tie.Need-sum-taps-requires
-sum-taps-requires c κs = search needs
-
-slice-aggregate-copy : tie.Need-slice-aggregate-copy
-slice-aggregate-copy c = search needs
-
-copy-requires : tie.Need-copy-requires
-copy-requires c κs = search needs
-
-same-length : tie.Need-same-length
-same-length c = search needs
-
 returns : tie.Need-returns
 returns c =
     let t = c .before .before in
@@ -28,9 +13,9 @@ pub sum-block-spec : {M : Type 1} → statement M
 sum-block-spec =
     tie.close
     (tie.spec
-    slice-aggregate-sum-taps
-    sum-taps-requires
-    slice-aggregate-copy
-    copy-requires
-    same-length
+    (λ c. search needs)  -- slice-aggregate-sum-taps
+    (λ c κs. search needs)  -- sum-taps-requires
+    (λ c. search needs)  -- slice-aggregate-copy
+    (λ c κs. search needs)  -- copy-requires
+    (λ c. search needs)  -- same-length
     returns)

@@ -26,9 +26,6 @@ Inv-loop row₀ img start step weights n last x₀ row x = Filled (at img weight
 abbrev μ-loop : tie.MeasureT-loop
 μ-loop row₀ img start step weights n last x₀ row x = n - x
 
-sum-taps-requires : tie.Need-sum-taps-requires Inv-loop μ-loop
-sum-taps-requires c κs = search needs
-
 same-length : tie.Need-same-length Inv-loop μ-loop
 same-length c = ap length (c .before .before .sum-taps .ensures) ∙ length-tabulate _ _
 
@@ -39,9 +36,6 @@ loop-holds : tie.Need-loop-holds Inv-loop μ-loop
 loop-holds c =
     let a = c .before .before .before .before .args in
     filled-none (at (now (a .img)) (now (a .weights)) (a .start) (a .step)) (length (now (a .row))) (now (a .row)) refl
-
-least-requires : tie.Need-least-requires Inv-loop μ-loop
-least-requires c κs = search needs
 
 -- in a turn: the function's start, and that the block lies in the row
 abbrev St : tie.After-least Inv-loop μ-loop → tie.Start Inv-loop μ-loop
@@ -57,12 +51,6 @@ add-end c = omega (arith, fits c .0, St c .good .0 .0)
 
 mul-sum-block : tie.Need-mul-sum-block Inv-loop μ-loop
 mul-sum-block c = omega (arith, fits c .0, St c .good .0 .1)
-
-sub-sum-block : tie.Need-sub-sum-block Inv-loop μ-loop
-sub-sum-block c = search needs
-
-part-sum-block-start : tie.Need-part-sum-block-start Inv-loop μ-loop
-part-sum-block-start c = search needs
 
 part-sum-block-end : tie.Need-part-sum-block-end Inv-loop μ-loop
 part-sum-block-end c = omega (arith, fits c .0, c .before .before .loop .inv .whole)
@@ -111,15 +99,15 @@ sum-blocks-spec =
     (tie.spec
     Inv-loop
     μ-loop
-    sum-taps-requires
+    (λ c κs. search needs)  -- sum-taps-requires
     same-length
     returns
     loop-holds
-    least-requires
+    (λ c κs. search needs)  -- least-requires
     add-end
     mul-sum-block
-    sub-sum-block
-    part-sum-block-start
+    (λ c. search needs)  -- sub-sum-block
+    (λ c. search needs)  -- part-sum-block-start
     part-sum-block-end
     add-sum-block
     sum-block-requires

@@ -25,9 +25,6 @@ Inv-loop row₀ img height y weights width r k₀ row k = (k ≤ length weights)
 abbrev μ-loop : tie.MeasureT-loop
 μ-loop row₀ img height y weights width r k₀ row k = length weights - k
 
-clear-requires : tie.Need-clear-requires Inv-loop μ-loop
-clear-requires c κs = search needs
-
 loop-holds : tie.Need-loop-holds Inv-loop μ-loop
 loop-holds c =
     let l = c .before .before in
@@ -48,12 +45,6 @@ fits c =
     let b : c .repeated-place .result < h = rw (c .repeated-place .ensures) (omega (arith, s .pre .1)) in
     rw (s .pre .2) (row-fits (length (now (s .args .row))) h (c .repeated-place .result) b)
 
-add-repeated-place : tie.Need-add-repeated-place Inv-loop μ-loop
-add-repeated-place c = search needs
-
-repeated-place-requires : tie.Need-repeated-place-requires Inv-loop μ-loop
-repeated-place-requires c κs = search needs
-
 mul-start : tie.Need-mul-start Inv-loop μ-loop
 mul-start c = omega (arith, fits c, St (c .before) .good .1 .0 .0)
 
@@ -63,20 +54,8 @@ add-end c = omega (arith, fits c, St (c .before) .good .1 .0 .0)
 mul-add-weighted : tie.Need-mul-add-weighted Inv-loop μ-loop
 mul-add-weighted c = omega (arith, fits (c .before), St (c .before .before) .good .1 .0 .1)
 
-sub-add-weighted : tie.Need-sub-add-weighted Inv-loop μ-loop
-sub-add-weighted c = search needs
-
-part-add-weighted-start : tie.Need-part-add-weighted-start Inv-loop μ-loop
-part-add-weighted-start c = search needs
-
 part-add-weighted-end : tie.Need-part-add-weighted-end Inv-loop μ-loop
 part-add-weighted-end c = omega (arith, fits (c .before))
-
-mul-add-weighted-2 : tie.Need-mul-add-weighted-2 Inv-loop μ-loop
-mul-add-weighted-2 c = search needs
-
-shared-slice-read-add-weighted : tie.Need-shared-slice-read-add-weighted Inv-loop μ-loop
-shared-slice-read-add-weighted c = search needs
 
 add-weighted-requires : tie.Need-add-weighted-requires Inv-loop μ-loop
 add-weighted-requires c κs =
@@ -85,12 +64,6 @@ add-weighted-requires c κs =
     let w = length (now (s .args .row)) in
     row-length (now (s .args .img)) w (p .repeated-place .result) _ (row-span w (p .repeated-place .result)) (fits p)
     ∙ sym (ap length (p .before .before .loop .inv .1) ∙ length-tabulate w _)
-
-add-k : tie.Need-add-k Inv-loop μ-loop
-add-k c = search needs
-
-loop-less : tie.Need-loop-less Inv-loop μ-loop
-loop-less c = search needs
 
 loop-again : tie.Need-loop-again Inv-loop μ-loop
 loop-again c =
@@ -128,21 +101,21 @@ sum-rows-spec =
     (tie.spec
     Inv-loop
     μ-loop
-    clear-requires
+    (λ c κs. search needs)  -- clear-requires
     loop-holds
-    add-repeated-place
-    repeated-place-requires
+    (λ c. search needs)  -- add-repeated-place
+    (λ c κs. search needs)  -- repeated-place-requires
     mul-start
     add-end
     mul-add-weighted
-    sub-add-weighted
-    part-add-weighted-start
+    (λ c. search needs)  -- sub-add-weighted
+    (λ c. search needs)  -- part-add-weighted-start
     part-add-weighted-end
-    mul-add-weighted-2
-    shared-slice-read-add-weighted
+    (λ c. search needs)  -- mul-add-weighted-2
+    (λ c. search needs)  -- shared-slice-read-add-weighted
     add-weighted-requires
-    add-k
-    loop-less
+    (λ c. search needs)  -- add-k
+    (λ c. search needs)  -- loop-less
     loop-again
     same-length
     returns)

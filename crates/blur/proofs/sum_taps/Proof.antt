@@ -20,9 +20,6 @@ Inv-loop row₀ img start step weights n k₀ row k = (k ≤ length weights) × 
 abbrev μ-loop : tie.MeasureT-loop
 μ-loop row₀ img start step weights n k₀ row k = length weights - k
 
-clear-requires : tie.Need-clear-requires Inv-loop μ-loop
-clear-requires c κs = search needs
-
 loop-holds : tie.Need-loop-holds Inv-loop μ-loop
 loop-holds c =
     let l = c .before .before in
@@ -52,20 +49,8 @@ add-end c = omega (arith, fits c, St c .good .1 .0 .0)
 mul-add-weighted : tie.Need-mul-add-weighted Inv-loop μ-loop
 mul-add-weighted c = omega (arith, fits (c .before), St (c .before) .good .1 .0 .1)
 
-sub-add-weighted : tie.Need-sub-add-weighted Inv-loop μ-loop
-sub-add-weighted c = search needs
-
-part-add-weighted-start : tie.Need-part-add-weighted-start Inv-loop μ-loop
-part-add-weighted-start c = search needs
-
 part-add-weighted-end : tie.Need-part-add-weighted-end Inv-loop μ-loop
 part-add-weighted-end c = omega (arith, fits (c .before))
-
-mul-add-weighted-2 : tie.Need-mul-add-weighted-2 Inv-loop μ-loop
-mul-add-weighted-2 c = search needs
-
-shared-slice-read-add-weighted : tie.Need-shared-slice-read-add-weighted Inv-loop μ-loop
-shared-slice-read-add-weighted c = search needs
 
 add-weighted-requires : tie.Need-add-weighted-requires Inv-loop μ-loop
 add-weighted-requires c κs =
@@ -75,12 +60,6 @@ add-weighted-requires c κs =
     let from = t .before .loop .k * s .args .step + s .args .start in
     part-length (now (s .args .img)) from (from + n) n (fits t) refl
     ∙ sym (ap length (t .before .loop .inv .1) ∙ length-tabulate n _)
-
-add-k : tie.Need-add-k Inv-loop μ-loop
-add-k c = search needs
-
-loop-less : tie.Need-loop-less Inv-loop μ-loop
-loop-less c = search needs
 
 loop-again : tie.Need-loop-again Inv-loop μ-loop
 loop-again c =
@@ -114,20 +93,20 @@ sum-taps-spec =
     (tie.spec
     Inv-loop
     μ-loop
-    clear-requires
+    (λ c κs. search needs)  -- clear-requires
     loop-holds
     mul-from
     add-from
     add-end
     mul-add-weighted
-    sub-add-weighted
-    part-add-weighted-start
+    (λ c. search needs)  -- sub-add-weighted
+    (λ c. search needs)  -- part-add-weighted-start
     part-add-weighted-end
-    mul-add-weighted-2
-    shared-slice-read-add-weighted
+    (λ c. search needs)  -- mul-add-weighted-2
+    (λ c. search needs)  -- shared-slice-read-add-weighted
     add-weighted-requires
-    add-k
-    loop-less
+    (λ c. search needs)  -- add-k
+    (λ c. search needs)  -- loop-less
     loop-again
     same-length
     returns)

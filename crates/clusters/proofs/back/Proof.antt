@@ -9,8 +9,9 @@ sub-result c = c .before .pre (c .if1 .taken)
 returns : tie.Need-returns
 returns c = rw (c .if1 .taken)
 
-returns-2 : tie.Need-returns-2
-returns-2 c = search needs
-
 pub back-spec : {M : Type 1} → statement M
-back-spec = tie.close (tie.spec sub-result returns returns-2)
+back-spec = tie.close (tie.spec
+    sub-result
+    returns
+    (λ c. search needs)  -- returns-2
+    )

@@ -24,21 +24,6 @@ loop-holds : tie.Need-loop-holds Inv-loop μ-loop
 unfolding any
 loop-holds c = (search needs, refl)
 
-add-found : tie.Need-add-found Inv-loop μ-loop
-add-found c = search needs
-
-mul-found : tie.Need-mul-found Inv-loop μ-loop
-mul-found c = search needs
-
-shared-slice-read-found : tie.Need-shared-slice-read-found Inv-loop μ-loop
-shared-slice-read-found c = search needs
-
-add-j : tie.Need-add-j Inv-loop μ-loop
-add-j c = search needs
-
-loop-less : tie.Need-loop-less Inv-loop μ-loop
-loop-less c = search needs
-
 loop-again : tie.Need-loop-again Inv-loop μ-loop
 loop-again c = (search needs, any-more _ _ _ (c .before .before .loop .inv .1))
 
@@ -55,10 +40,10 @@ block-below-spec =
     Inv-loop
     μ-loop
     loop-holds
-    add-found
-    mul-found
-    shared-slice-read-found
-    add-j
-    loop-less
+    (λ c. search needs)  -- add-found
+    (λ c. search needs)  -- mul-found
+    (λ c. search needs)  -- shared-slice-read-found
+    (λ c. search needs)  -- add-j
+    (λ c. search needs)  -- loop-less
     loop-again
     returns)

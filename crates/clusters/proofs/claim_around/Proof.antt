@@ -44,9 +44,6 @@ third c = c .before .before .before .before .before .before
 abbrev places : tie.After-claim-arg2 → tie.After-ahead2
 places c = c .before .before
 
-rem-x : tie.Need-rem-x
-rem-x c = search needs
-
 back-requires : tie.Need-back-requires
 back-requires c κs = λ e.
     let a = c .before .before .args in
@@ -56,18 +53,6 @@ add-ahead : tie.Need-add-ahead
 add-ahead c =
     let s = c .before .before .before in
     omega (arith, mod-le (s .args .p) (s .args .width), s .pre)
-
-ahead-requires : tie.Need-ahead-requires
-ahead-requires c κs = search needs
-
-back-requires-2 : tie.Need-back-requires-2
-back-requires-2 c κs = search needs
-
-add-ahead-2 : tie.Need-add-ahead-2
-add-ahead-2 c = search needs
-
-ahead-requires-2 : tie.Need-ahead-requires-2
-ahead-requires-2 c κs = search needs
 
 claim-requires : tie.Need-claim-requires
 claim-requires c κs =
@@ -104,12 +89,6 @@ claim-requires-4 c κs =
       omega (arith, s .pre, k .claim .kept .1 .1 .0, m .claim2 .kept .1 .1 .0, l .claim3 .kept .1 .1 .0, k .claim .ensures .1, m .claim2 .ensures .1, l .claim3 .ensures .1),
     )
 
-same-length : tie.Need-same-length
-same-length c = search needs
-
-same-length-2 : tie.Need-same-length-2
-same-length-2 c = search needs
-
 returns : tie.Need-returns
 returns c =
     let d = c .before .before .before .before in
@@ -131,17 +110,17 @@ pub claim-around-spec : {M : Type 1} → statement M
 claim-around-spec =
     tie.close
     (tie.spec
-    rem-x
+    (λ c. search needs)  -- rem-x
     back-requires
     add-ahead
-    ahead-requires
-    back-requires-2
-    add-ahead-2
-    ahead-requires-2
+    (λ c κs. search needs)  -- ahead-requires
+    (λ c κs. search needs)  -- back-requires-2
+    (λ c. search needs)  -- add-ahead-2
+    (λ c κs. search needs)  -- ahead-requires-2
     claim-requires
     claim-requires-2
     claim-requires-3
     claim-requires-4
-    same-length
-    same-length-2
+    (λ c. search needs)  -- same-length
+    (λ c. search needs)  -- same-length-2
     returns)

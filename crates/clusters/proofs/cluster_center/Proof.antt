@@ -22,8 +22,10 @@ int-to-float-t7 : tie.Need-int-to-float-t7
 unfolding inFloat
 int-to-float-t7 c = omega (arith, le→leb, small (c .before .before .before) .y)
 
-returns : tie.Need-returns
-returns c = search needs
-
 pub cluster-center-spec : {M : Type 1} → statement M
-cluster-center-spec = tie.close (tie.spec int-to-float-n int-to-float-t5 int-to-float-t7 returns)
+cluster-center-spec = tie.close (tie.spec
+    int-to-float-n
+    int-to-float-t5
+    int-to-float-t7
+    (λ c. search needs)  -- returns
+    )

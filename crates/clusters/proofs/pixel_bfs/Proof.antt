@@ -89,14 +89,8 @@ loop-holds c =
       refl,
     )
 
-sub-pending : tie.Need-sub-pending Inv-loop μ-loop
-sub-pending c = search needs
-
 mul-p : tie.Need-mul-p Inv-loop μ-loop
 mul-p c = omega (arith, long (c .before), c .before .loop .inv .1, start (c .before) .good .1 .1 .1 .0 .1)
-
-slice-read-p : tie.Need-slice-read-p Inv-loop μ-loop
-slice-read-p c = search needs
 
 cast-p : tie.Need-cast-p Inv-loop μ-loop
 cast-p c = omega (arith, c .slice-known5 .given (c .before .before .loop .pending - 1))
@@ -193,9 +187,9 @@ pixel-bfs-spec =
     μ-loop
     claim-requires
     loop-holds
-    sub-pending
+    (λ c. search needs)  -- sub-pending
     mul-p
-    slice-read-p
+    (λ c. search needs)  -- slice-read-p
     cast-p
     rem-x
     add-x

@@ -6,38 +6,11 @@ use Rattle.clusters.proofs.Rows.{put-there, put-nowhere}
 use Rattle.clusters.proofs.put_row.Statement.{statement}
 use Rattle.clusters.proofs.put_row.Tie as tie
 
-mul-at : tie.Need-mul-at
-mul-at c = search needs
-
-add-if1 : tie.Need-add-if1
-add-if1 c = search needs
-
-mul-rows : tie.Need-mul-rows
-mul-rows c = search needs
-
-slice-write-rows : tie.Need-slice-write-rows
-slice-write-rows c = search needs
-
-add-rows : tie.Need-add-rows
-add-rows c = search needs
-
-mul-rows-2 : tie.Need-mul-rows-2
-mul-rows-2 c = search needs
-
 slice-write-rows-2 : tie.Need-slice-write-rows-2
 slice-write-rows-2 c = simp length-set (omega arith)
 
-add-rows-2 : tie.Need-add-rows-2
-add-rows-2 c = search needs
-
-mul-rows-3 : tie.Need-mul-rows-3
-mul-rows-3 c = search needs
-
 slice-write-rows-3 : tie.Need-slice-write-rows-3
 slice-write-rows-3 c = simp length-set (omega arith)
-
-same-length : tie.Need-same-length
-same-length c = search needs
 
 returns : tie.Need-returns
 returns c = put-there _ _ (c .before .args .row) (c .if1 .taken)
@@ -49,16 +22,16 @@ pub put-row-spec : {M : Type 1} → statement M
 put-row-spec =
     tie.close
     (tie.spec
-    mul-at
-    add-if1
-    mul-rows
-    slice-write-rows
-    add-rows
-    mul-rows-2
+    (λ c. search needs)  -- mul-at
+    (λ c. search needs)  -- add-if1
+    (λ c. search needs)  -- mul-rows
+    (λ c. search needs)  -- slice-write-rows
+    (λ c. search needs)  -- add-rows
+    (λ c. search needs)  -- mul-rows-2
     slice-write-rows-2
-    add-rows-2
-    mul-rows-3
+    (λ c. search needs)  -- add-rows-2
+    (λ c. search needs)  -- mul-rows-3
     slice-write-rows-3
-    same-length
+    (λ c. search needs)  -- same-length
     returns
     returns-2)

@@ -25,17 +25,8 @@ add-loop c =
     let l = c .loop in
     omega (arith, passed-le _ _ _ _ (l .i) (l .inv) (length (now (s .args .mat))) (s .pre .1) (s .pre .0), s .good .0 .1)
 
-block-below-requires : tie.Need-block-below-requires Inv-loop μ-loop
-block-below-requires c κs = search needs
-
 returns : tie.Need-returns Inv-loop μ-loop
 returns c = c .before .before .before .loop .inv
-
-add-i : tie.Need-add-i Inv-loop μ-loop
-add-i c = search needs
-
-loop-less : tie.Need-loop-less Inv-loop μ-loop
-loop-less c = search needs
 
 loop-again : tie.Need-loop-again Inv-loop μ-loop
 loop-again c =
@@ -54,9 +45,9 @@ skip-blocks-spec =
     μ-loop
     loop-holds
     add-loop
-    block-below-requires
+    (λ c κs. search needs)  -- block-below-requires
     returns
-    add-i
-    loop-less
+    (λ c. search needs)  -- add-i
+    (λ c. search needs)  -- loop-less
     loop-again
     returns-2)

@@ -11,9 +11,6 @@ use Rattle.levels.proofs.Cases.{code-flat, code-unsure, code-word}
 use Rattle.levels.proofs.bit_code.Statement.{statement}
 use Rattle.levels.proofs.bit_code.Tie as tie
 
-range-of-requires : tie.Need-range-of-requires
-range-of-requires c κs = search needs
-
 sub-if1 : tie.Need-sub-if1
 sub-if1 c = omega (arith, least-le-greatest (c .before .before .before .args .levels .now) (omega arith))
 
@@ -21,9 +18,6 @@ returns : tie.Need-returns
 returns c =
     let a = c .before .before .before .before .args in
     sym (code-flat (a .levels .now) (a .band) (a .allowed) (omega arith))
-
-middle-of-requires : tie.Need-middle-of-requires
-middle-of-requires c κs = search needs
 
 -- ---- what is known once the middle is
 
@@ -38,18 +32,12 @@ middle c =
     let range = c .before .before .before .range-of .ensures in
     c .middle-of .ensures ∙ ap₂ (λ (least greatest : ℕ). (least + greatest + 1) / 2) (range .0) (range .1)
 
-unsure-levels-requires : tie.Need-unsure-levels-requires
-unsure-levels-requires c κs = search needs
-
 returns-2 : tie.Need-returns-2
 returns-2 c =
     let m = c .before .before in
     let a = m .before .before .before .before .before .args in
     let n = c .before .unsure-levels .ensures ∙ ap (λ (x : ℕ). unsureOf x (a .band) (levels m)) (middle m) in
     sym (code-unsure (levels m) (a .band) (a .allowed) (wide m) (omega arith))
-
-word-of-requires : tie.Need-word-of-requires
-word-of-requires c κs = search needs
 
 returns-3 : tie.Need-returns-3
 returns-3 c =
@@ -63,11 +51,11 @@ pub bit-code-spec : {M : Type 1} → statement M
 bit-code-spec =
     tie.close
     (tie.spec
-    range-of-requires
+    (λ c κs. search needs)  -- range-of-requires
     sub-if1
     returns
-    middle-of-requires
-    unsure-levels-requires
+    (λ c κs. search needs)  -- middle-of-requires
+    (λ c κs. search needs)  -- unsure-levels-requires
     returns-2
-    word-of-requires
+    (λ c κs. search needs)  -- word-of-requires
     returns-3)

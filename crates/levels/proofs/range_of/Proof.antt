@@ -17,34 +17,10 @@ Inv-loop levels least₀ greatest₀ i₀ least greatest i =
 abbrev μ-loop : tie.MeasureT-loop
 μ-loop levels least₀ greatest₀ i₀ least greatest i = length levels - i
 
-shared-slice-read-least : tie.Need-shared-slice-read-least Inv-loop μ-loop
-shared-slice-read-least c = omega arith
-
-shared-slice-read-greatest : tie.Need-shared-slice-read-greatest Inv-loop μ-loop
-shared-slice-read-greatest c = omega arith
-
 loop-holds : tie.Need-loop-holds Inv-loop μ-loop
 loop-holds c =
     let levels = c .before .before .before .args .levels .now in
     (omega arith, over-first min levels (omega arith), over-first max levels (omega arith))
-
-shared-slice-read-lesser : tie.Need-shared-slice-read-lesser Inv-loop μ-loop
-shared-slice-read-lesser c = omega arith
-
-lesser-requires : tie.Need-lesser-requires Inv-loop μ-loop
-lesser-requires c κs = search needs
-
-shared-slice-read-greater : tie.Need-shared-slice-read-greater Inv-loop μ-loop
-shared-slice-read-greater c = omega arith
-
-greater-requires : tie.Need-greater-requires Inv-loop μ-loop
-greater-requires c κs = search needs
-
-add-i : tie.Need-add-i Inv-loop μ-loop
-add-i c = omega arith
-
-loop-less : tie.Need-loop-less Inv-loop μ-loop
-loop-less c = omega arith
 
 loop-again : tie.Need-loop-again Inv-loop μ-loop
 loop-again c =
@@ -70,14 +46,14 @@ range-of-spec =
     (tie.spec
     Inv-loop
     μ-loop
-    shared-slice-read-least
-    shared-slice-read-greatest
+    (λ c. omega arith)  -- shared-slice-read-least
+    (λ c. omega arith)  -- shared-slice-read-greatest
     loop-holds
-    shared-slice-read-lesser
-    lesser-requires
-    shared-slice-read-greater
-    greater-requires
-    add-i
-    loop-less
+    (λ c. omega arith)  -- shared-slice-read-lesser
+    (λ c κs. search needs)  -- lesser-requires
+    (λ c. omega arith)  -- shared-slice-read-greater
+    (λ c κs. search needs)  -- greater-requires
+    (λ c. omega arith)  -- add-i
+    (λ c. omega arith)  -- loop-less
     loop-again
     returns)

@@ -20,23 +20,11 @@ loop-holds : tie.Need-loop-holds Inv-loop μ-loop
 unfolding sum
 loop-holds c = (omega arith, refl)
 
-shared-slice-read-unsure-one : tie.Need-shared-slice-read-unsure-one Inv-loop μ-loop
-shared-slice-read-unsure-one c = omega arith
-
-unsure-one-requires : tie.Need-unsure-one-requires Inv-loop μ-loop
-unsure-one-requires c κs = search needs
-
 add-n : tie.Need-add-n Inv-loop μ-loop
 add-n c =
     let l = c .before .before .before in
     let a = l .before .before .args in
     omega (arith, unsure-le (a .middle) (a .band) (a .levels .now) (l .loop .i), c .unsure-one .ensures, unsure-lt (a .middle) (a .band) (getD (a .levels .now) (l .loop .i) 0))
-
-add-i : tie.Need-add-i Inv-loop μ-loop
-add-i c = omega arith
-
-loop-less : tie.Need-loop-less Inv-loop μ-loop
-loop-less c = omega arith
 
 loop-again : tie.Need-loop-again Inv-loop μ-loop
 loop-again c =
@@ -58,10 +46,10 @@ unsure-levels-spec =
     Inv-loop
     μ-loop
     loop-holds
-    shared-slice-read-unsure-one
-    unsure-one-requires
+    (λ c. omega arith)  -- shared-slice-read-unsure-one
+    (λ c κs. search needs)  -- unsure-one-requires
     add-n
-    add-i
-    loop-less
+    (λ c. omega arith)  -- add-i
+    (λ c. omega arith)  -- loop-less
     loop-again
     returns)

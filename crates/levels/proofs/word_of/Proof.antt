@@ -26,23 +26,11 @@ mul-bits c =
     let a = l .before .before .args in
     omega (arith, word-fits (a .middle) (a .levels .now) (l .loop .i) (l .loop .bits) (omega arith) (l .loop .inv .1))
 
-shared-slice-read-bit-of : tie.Need-shared-slice-read-bit-of Inv-loop μ-loop
-shared-slice-read-bit-of c = omega arith
-
-bit-of-requires : tie.Need-bit-of-requires Inv-loop μ-loop
-bit-of-requires c κs = search needs
-
 add-bits : tie.Need-add-bits Inv-loop μ-loop
 add-bits c =
     let l = c .before .before .before in
     let a = l .before .before .args in
     omega (arith, word-fits (a .middle) (a .levels .now) (l .loop .i) (l .loop .bits) (omega arith) (l .loop .inv .1), c .bit-of .ensures, above-lt (a .middle) (getD (a .levels .now) (l .loop .i) 0))
-
-add-i : tie.Need-add-i Inv-loop μ-loop
-add-i c = omega arith
-
-loop-less : tie.Need-loop-less Inv-loop μ-loop
-loop-less c = omega arith
 
 loop-again : tie.Need-loop-again Inv-loop μ-loop
 loop-again c =
@@ -65,10 +53,10 @@ word-of-spec =
     μ-loop
     loop-holds
     mul-bits
-    shared-slice-read-bit-of
-    bit-of-requires
+    (λ c. omega arith)  -- shared-slice-read-bit-of
+    (λ c κs. search needs)  -- bit-of-requires
     add-bits
-    add-i
-    loop-less
+    (λ c. omega arith)  -- add-i
+    (λ c. omega arith)  -- loop-less
     loop-again
     returns)

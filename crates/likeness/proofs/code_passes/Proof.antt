@@ -1,22 +1,12 @@
 -- The tests of one code in turn. Assumes nothing.
-use mathlib.Core.Path.{_≡_, sym, _∙_}
-use mathlib.Core.Bool.{Bool, false}
-use mathlib.Core.List.{List}
-use Prim.Native.Nat.{ℕ}
+use mathlib.Core.Path.{sym, _∙_}
 use native.Mathlib.Omega.{arith}
 use borrow.Author.Needs.{needs}
 use borrow.Author.Tests.{not-true, not-false}
-use Rattle.tables.specs.Table.{badCodes}
-use Rattle.tables.proofs.Table.{Codes, good-codes}
+use Rattle.tables.proofs.Table.{good-codes}
 use Rattle.likeness.proofs.Tested.{not-mixed, near-itself, tested}
 use Rattle.likeness.proofs.code_passes.Statement.{statement}
 use Rattle.likeness.proofs.code_passes.Tie as tie
-
-mul-turns-of : tie.Need-mul-turns-of
-mul-turns-of c = search needs
-
-shared-slice-read-turns-of : tie.Need-shared-slice-read-turns-of
-shared-slice-read-turns-of c = search needs
 
 turns-of-requires : tie.Need-turns-of-requires
 turns-of-requires c κs =
@@ -24,20 +14,11 @@ turns-of-requires c κs =
     let t = good-codes (s .args .edge) (s .args .threshold) (s .args .codes .now) (s .pre .0) in
     (omega (arith, t .edges .least), omega (arith, t .edges .most))
 
-mul-least : tie.Need-mul-least
-mul-least c = search needs
-
 sub-least : tie.Need-sub-least
 sub-least c =
     let s = c .before .before .before in
     let t = good-codes (s .args .edge) (s .args .threshold) (s .args .codes .now) (s .pre .0) in
     omega (arith, t .near .least)
-
-mul-is-mixed : tie.Need-mul-is-mixed
-mul-is-mixed c = search needs
-
-shared-slice-read-is-mixed : tie.Need-shared-slice-read-is-mixed
-shared-slice-read-is-mixed c = search needs
 
 is-mixed-requires : tie.Need-is-mixed-requires
 is-mixed-requires c κs =
@@ -54,9 +35,6 @@ returns c =
     not-mixed (a .edge) (a .threshold) (a .codes .now) (a .n) (good-codes (a .edge) (a .threshold) (a .codes .now) (s .pre .0)) (s .pre .1) (k .turns-of .result) (k .turns-of .ensures)
     (sym (m .is-mixed .ensures) ∙ not-true _ (c .if1 .taken))
 
-far-from-itself-requires : tie.Need-far-from-itself-requires
-far-from-itself-requires c κs = search needs
-
 returns-2 : tie.Need-returns-2
 returns-2 c =
     let o = c .before in
@@ -67,9 +45,6 @@ returns-2 c =
     let a = s .args in
     near-itself (a .edge) (a .threshold) (a .codes .now) (a .n) (good-codes (a .edge) (a .threshold) (a .codes .now) (s .pre .0)) (s .pre .1) (k .turns-of .result) (k .turns-of .ensures)
     (sym (m .is-mixed .ensures) ∙ not-false _ (i .if1 .left)) (sym (o .far-from-itself .ensures) ∙ not-true _ (c .if2 .taken))
-
-far-from-earlier-requires : tie.Need-far-from-earlier-requires
-far-from-earlier-requires c κs = search needs
 
 returns-3 : tie.Need-returns-3
 returns-3 c =
@@ -87,16 +62,16 @@ pub code-passes-spec : {M : Type 1} → statement M
 code-passes-spec =
     tie.close
     (tie.spec
-    mul-turns-of
-    shared-slice-read-turns-of
+    (λ c. search needs)  -- mul-turns-of
+    (λ c. search needs)  -- shared-slice-read-turns-of
     turns-of-requires
-    mul-least
+    (λ c. search needs)  -- mul-least
     sub-least
-    mul-is-mixed
-    shared-slice-read-is-mixed
+    (λ c. search needs)  -- mul-is-mixed
+    (λ c. search needs)  -- shared-slice-read-is-mixed
     is-mixed-requires
     returns
-    far-from-itself-requires
+    (λ c κs. search needs)  -- far-from-itself-requires
     returns-2
-    far-from-earlier-requires
+    (λ c κs. search needs)  -- far-from-earlier-requires
     returns-3)

@@ -1,21 +1,8 @@
 -- Each comparison is the definition's. Assumes nothing.
-use mathlib.Core.Path.{sym}
 use Rattle.likeness.specs.Turned.{farFrom}
 use borrow.Author.Needs.{needs}
 use Rattle.likeness.proofs.far_from.Statement.{statement}
 use Rattle.likeness.proofs.far_from.Tie as tie
-
-differing-bits-requires : tie.Need-differing-bits-requires
-differing-bits-requires c κs = search needs
-
-differing-bits-requires-2 : tie.Need-differing-bits-requires-2
-differing-bits-requires-2 c κs = search needs
-
-differing-bits-requires-3 : tie.Need-differing-bits-requires-3
-differing-bits-requires-3 c κs = search needs
-
-differing-bits-requires-4 : tie.Need-differing-bits-requires-4
-differing-bits-requires-4 c κs = search needs
 
 returns : tie.Need-returns
 unfolding farFrom
@@ -25,8 +12,8 @@ pub far-from-spec : {M : Type 1} → statement M
 far-from-spec =
     tie.close
     (tie.spec
-    differing-bits-requires
-    differing-bits-requires-2
-    differing-bits-requires-3
-    differing-bits-requires-4
+    (λ c κs. search needs)  -- differing-bits-requires
+    (λ c κs. search needs)  -- differing-bits-requires-2
+    (λ c κs. search needs)  -- differing-bits-requires-3
+    (λ c κs. search needs)  -- differing-bits-requires-4
     returns)

@@ -4,16 +4,13 @@ use borrow.Author.Needs.{needs}
 use Rattle.likeness.proofs.far_from_itself.Statement.{statement}
 use Rattle.likeness.proofs.far_from_itself.Tie as tie
 
-differing-bits-requires : tie.Need-differing-bits-requires
-differing-bits-requires c κs = search needs
-
-differing-bits-requires-2 : tie.Need-differing-bits-requires-2
-differing-bits-requires-2 c κs = search needs
-
 returns : tie.Need-returns
 unfolding farSelf
 returns c = simp (c .before .differing-bits .ensures, c .differing-bits2 .ensures)
 
 pub far-from-itself-spec : {M : Type 1} → statement M
 far-from-itself-spec =
-    tie.close (tie.spec differing-bits-requires differing-bits-requires-2 returns)
+    tie.close (tie.spec
+    (λ c κs. search needs)  -- differing-bits-requires
+    (λ c κs. search needs)  -- differing-bits-requires-2
+    returns)

@@ -6,9 +6,6 @@ use borrow.Author.Needs.{needs}
 use Rattle.likeness.proofs.is_mixed.Statement.{statement}
 use Rattle.likeness.proofs.is_mixed.Tie as tie
 
-differing-bits-requires : tie.Need-differing-bits-requires
-differing-bits-requires c κs = search needs
-
 mul-places : tie.Need-mul-places
 mul-places c = let a = c .before .args in omega (arith, places-le (a .edge) (c .before .pre .0))
 
@@ -23,4 +20,9 @@ returns-2 c = let k = c .before in let a = k .before .args in enough-ones (a .ed
 
 pub is-mixed-spec : {M : Type 1} → statement M
 is-mixed-spec =
-    tie.close (tie.spec differing-bits-requires mul-places returns sub-result returns-2)
+    tie.close (tie.spec
+    (λ c κs. search needs)  -- differing-bits-requires
+    mul-places
+    returns
+    sub-result
+    returns-2)

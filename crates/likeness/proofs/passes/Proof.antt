@@ -1,7 +1,7 @@
 -- The codes before n pass. Assumes nothing.
-use mathlib.Core.Path.{_≡_, refl, sym, ap, ap₂, _∙_}
-use mathlib.Core.Bool.{Bool, true, _&&_}
-use Prim.Native.Nat.{ℕ, _+_, _-_, _≤_, _<_}
+use mathlib.Core.Path.{_≡_, sym, ap, _∙_}
+use mathlib.Core.Bool.{true}
+use Prim.Native.Nat.{ℕ, _-_, _≤_}
 use native.Mathlib.Omega.{arith}
 use borrow.Author.Tests.{not-true, not-false}
 use lib.ListN.{length}
@@ -30,12 +30,6 @@ returns c =
     let a = l .before .before .args in
     sym (each-fails (length (a .codes .now)) (passesAt (a .edge) (a .threshold) (a .codes .now)) (l .loop .n) (omega arith) (sym (c .before .code-passes .ensures) ∙ not-true _ (c .if1 .taken)))
 
-add-n : tie.Need-add-n Inv-loop μ-loop
-add-n c = omega arith
-
-loop-less : tie.Need-loop-less Inv-loop μ-loop
-loop-less c = omega arith
-
 loop-again : tie.Need-loop-again Inv-loop μ-loop
 loop-again c =
     let l = c .before .before .before in
@@ -52,4 +46,13 @@ returns-2 c =
 
 pub passes-spec : {M : Type 1} → statement M
 passes-spec =
-    tie.close (tie.spec Inv-loop μ-loop loop-holds code-passes-requires returns add-n loop-less loop-again returns-2)
+    tie.close (tie.spec
+    Inv-loop
+    μ-loop
+    loop-holds
+    code-passes-requires
+    returns
+    (λ c. omega arith)  -- add-n
+    (λ c. omega arith)  -- loop-less
+    loop-again
+    returns-2)

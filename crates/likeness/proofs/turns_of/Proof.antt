@@ -1,19 +1,9 @@
 -- Assumes nothing.
-use mathlib.Core.Path.{refl, sym, ap, _∙_}
+use mathlib.Core.Path.{refl, ap, _∙_}
 use borrow.Author.Needs.{needs}
 use Rattle.word.specs.Word.{turn, turns}
-use Rattle.likeness.specs.Turned.{FourTurns}
 use Rattle.likeness.proofs.turns_of.Statement.{statement}
 use Rattle.likeness.proofs.turns_of.Tie as tie
-
-rotate-bits-requires : tie.Need-rotate-bits-requires
-rotate-bits-requires c κs = search needs
-
-rotate-bits-requires-2 : tie.Need-rotate-bits-requires-2
-rotate-bits-requires-2 c κs = search needs
-
-rotate-bits-requires-3 : tie.Need-rotate-bits-requires-3
-rotate-bits-requires-3 c κs = search needs
 
 returns : tie.Need-returns
 unfolding turns
@@ -24,4 +14,8 @@ returns c =
     record { none = refl; one = one; two = two; three = c .rotate-bits3 .ensures ∙ ap (turn e) two }
 
 pub turns-of-spec : {M : Type 1} → statement M
-turns-of-spec = tie.close (tie.spec rotate-bits-requires rotate-bits-requires-2 rotate-bits-requires-3 returns)
+turns-of-spec = tie.close (tie.spec
+    (λ c κs. search needs)  -- rotate-bits-requires
+    (λ c κs. search needs)  -- rotate-bits-requires-2
+    (λ c κs. search needs)  -- rotate-bits-requires-3
+    returns)

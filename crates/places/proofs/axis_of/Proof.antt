@@ -29,18 +29,6 @@ q2 c = let k = c .before .before .before .before in corner (c .before .in-1024th
 q3 : (c : tie.After-in-1024ths4) → Held (ofZ w64 (c .in-1024ths4 .result)) (in1024ths (c .before .before .before .before .args .x3)) (2 ^ 24)
 q3 c = let k = c .before .before .before .before in corner (c .in-1024ths4 .result) (k .args .x3) (c .in-1024ths4 .ensures) (k .pre .3)
 
-in-1024ths-requires : tie.Need-in-1024ths-requires
-in-1024ths-requires c κs = search needs
-
-in-1024ths-requires-2 : tie.Need-in-1024ths-requires-2
-in-1024ths-requires-2 c κs = search needs
-
-in-1024ths-requires-3 : tie.Need-in-1024ths-requires-3
-in-1024ths-requires-3 c κs = search needs
-
-in-1024ths-requires-4 : tie.Need-in-1024ths-requires-4
-in-1024ths-requires-4 c κs = search needs
-
 add-t9 : tie.Need-add-t9
 add-t9 c = plus (q0 c) (q1 c) (lit< tt) .0
 
@@ -79,4 +67,18 @@ returns c =
 pub axis-of-spec : {M : Type 1} → statement M
 axis-of-spec =
     tie.close
-    (tie.spec in-1024ths-requires in-1024ths-requires-2 in-1024ths-requires-3 in-1024ths-requires-4 add-t9 add-t10 add-t11 add-t12 sub-t13 sub-t14 add-t15 sub-t16 sub-t17 returns)
+    (tie.spec
+    (λ c κs. search needs)  -- in-1024ths-requires
+    (λ c κs. search needs)  -- in-1024ths-requires-2
+    (λ c κs. search needs)  -- in-1024ths-requires-3
+    (λ c κs. search needs)  -- in-1024ths-requires-4
+    add-t9
+    add-t10
+    add-t11
+    add-t12
+    sub-t13
+    sub-t14
+    add-t15
+    sub-t16
+    sub-t17
+    returns)

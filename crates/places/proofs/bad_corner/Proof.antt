@@ -3,14 +3,11 @@ use borrow.Author.Needs.{needs}
 use Rattle.places.proofs.bad_corner.Statement.{statement}
 use Rattle.places.proofs.bad_corner.Tie as tie
 
-bad-coordinate-requires : tie.Need-bad-coordinate-requires
-bad-coordinate-requires c κs = search needs
-
-bad-coordinate-requires-2 : tie.Need-bad-coordinate-requires-2
-bad-coordinate-requires-2 c κs = search needs
-
 returns : tie.Need-returns
 returns c = cc
 
 pub bad-corner-spec : {M : Type 1} → statement M
-bad-corner-spec = tie.close (tie.spec bad-coordinate-requires bad-coordinate-requires-2 returns)
+bad-corner-spec = tie.close (tie.spec
+    (λ c κs. search needs)  -- bad-coordinate-requires
+    (λ c κs. search needs)  -- bad-coordinate-requires-2
+    returns)

@@ -19,14 +19,8 @@ i c = natural (c .args .i) 16 (lit< tt) (omega arith)
 side : (c : tie.Start) → Held (c .args .side) (pos (c .args .side)) 16
 side c = natural (c .args .side) 16 (lit< tt) (omega arith)
 
-cast-result : tie.Need-cast-result
-cast-result c = search needs
-
 mul-result : tie.Need-mul-result
 mul-result c = times two (i c) (lit< tt) .0
-
-cast-result-2 : tie.Need-cast-result-2
-cast-result-2 c = search needs
 
 sub-result : tie.Need-sub-result
 sub-result c = minus (times two (i c) (lit< tt) .1) (side c) (lit< tt) .0
@@ -38,4 +32,10 @@ returns : tie.Need-returns
 returns c = plus (minus (times two (i c) (lit< tt) .1) (side c) (lit< tt) .1) one (lit< tt) .1 .is
 
 pub from-middle-spec : {M : Type 1} → statement M
-from-middle-spec = tie.close (tie.spec cast-result mul-result cast-result-2 sub-result add-result returns)
+from-middle-spec = tie.close (tie.spec
+    (λ c. search needs)  -- cast-result
+    mul-result
+    (λ c. search needs)  -- cast-result-2
+    sub-result
+    add-result
+    returns)

@@ -25,9 +25,6 @@ float-to-bits-pattern c = not-nan (c .args .x) (c .pre)
 nearest-times-requires : tie.Need-nearest-times-requires
 nearest-times-requires c κs = (near (c .args .x) (held c) (c .pre), search needs)
 
-cast-n : tie.Need-cast-n
-cast-n c = search needs
-
 zero : Held 0 (pos 0) 0
 zero = natural 0 0 (lit< tt) (lit≤ tt)
 
@@ -50,4 +47,10 @@ returns-2 c = toZ-pos w64 (c .before .nearest-times .result) (omega arith) ∙ w
 pub in-1024ths-spec : {M : Type 1} → statement M
 in-1024ths-spec =
     tie.close
-    (tie.spec float-to-bits-pattern nearest-times-requires cast-n sub-result returns returns-2)
+    (tie.spec
+    float-to-bits-pattern
+    nearest-times-requires
+    (λ c. search needs)  -- cast-n
+    sub-result
+    returns
+    returns-2)

@@ -37,23 +37,14 @@ module _ (c : tie.After-from-middle2) where
   column-term : Made _*ℤ_ (ofZ w64 (c .from-middle2 .result)) (ofZ w64 (at2 .args .axis .b)) (fromMiddle (at2 .args .side) (at2 .args .j) *ℤ at2 .args .axis .b) (16 * 2 ^ 26)
   column-term = term (at2 .args .side) (at2 .args .j) (c .from-middle2 .result) (at2 .args .axis .b) (at2 .pre .side-le) (at2 .pre .column) (c .from-middle2 .ensures) (at2 .pre .small .b-small)
 
-cast-result : tie.Need-cast-result
-cast-result c = search needs
-
 mul-result : tie.Need-mul-result
 mul-result c = sum-term (c .before .before) .0
-
-from-middle-requires : tie.Need-from-middle-requires
-from-middle-requires c κs = search needs
 
 mul-result-2 : tie.Need-mul-result-2
 mul-result-2 c = row-term (c .before .before) .0
 
 add-result : tie.Need-add-result
 add-result c = let f = c .before .before in plus (sum-term (at f) .1) (row-term f .1) (lit< tt) .0
-
-from-middle-requires-2 : tie.Need-from-middle-requires-2
-from-middle-requires-2 c κs = search needs
 
 mul-result-3 : tie.Need-mul-result-3
 mul-result-3 c = column-term (c .before .before) .0
@@ -74,12 +65,12 @@ pub module-place-spec : {M : Type 1} → statement M
 module-place-spec =
     tie.close
     (tie.spec
-    cast-result
+    (λ c. search needs)  -- cast-result
     mul-result
-    from-middle-requires
+    (λ c κs. search needs)  -- from-middle-requires
     mul-result-2
     add-result
-    from-middle-requires-2
+    (λ c κs. search needs)  -- from-middle-requires-2
     mul-result-3
     add-result-2
     returns)

@@ -17,37 +17,16 @@ cut pattern digits = 150 - digits - field pattern
 shift : (d : ℕ) → d ≤ 30 → 1 * 2 ^ d % 4294967296 ≡ 2 ^ d
 shift d h = shl-exact 1 d 32 (lit< tt) (omega arith) ∙ one-mul (2 ^ d)
 
-add-m : tie.Need-add-m
-add-m c = search needs
-
-sub-d : tie.Need-sub-d
-sub-d c = search needs
-
-sub-d-2 : tie.Need-sub-d-2
-sub-d-2 c = search needs
-
 returns : tie.Need-returns
 returns c =
     let a = c .before .args in
     sym (pattern-none (a .pattern) (c .before .pre .0) (a .digits) (cut (a .pattern) (a .digits)) (c .before .pre .1) (omega arith) (c .if1 .taken))
-
-mul-result : tie.Need-mul-result
-mul-result c = search needs
-
-shl-result : tie.Need-shl-result
-shl-result c = search needs
 
 add-result : tie.Need-add-result
 add-result c =
     let d = cut (c .before .args .pattern) (c .before .args .digits) in
     let h : 2 ^ d ≤ 2 ^ 30 = pow-mono {j = 30} (c .if1 .left) in
     omega (arith, shift d (c .if1 .left))
-
-add-result-2 : tie.Need-add-result-2
-add-result-2 c = search needs
-
-shr-result : tie.Need-shr-result
-shr-result c = search needs
 
 returns-2 : tie.Need-returns-2
 returns-2 c =
@@ -59,4 +38,14 @@ returns-2 c =
 pub nearest-times-spec : {M : Type 1} → statement M
 nearest-times-spec =
     tie.close
-    (tie.spec add-m sub-d sub-d-2 returns mul-result shl-result add-result add-result-2 shr-result returns-2)
+    (tie.spec
+    (λ c. search needs)  -- add-m
+    (λ c. search needs)  -- sub-d
+    (λ c. search needs)  -- sub-d-2
+    returns
+    (λ c. search needs)  -- mul-result
+    (λ c. search needs)  -- shl-result
+    add-result
+    (λ c. search needs)  -- add-result-2
+    (λ c. search needs)  -- shr-result
+    returns-2)

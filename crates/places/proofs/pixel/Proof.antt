@@ -18,9 +18,6 @@ use Rattle.places.proofs.Whole.{Held, number}
 use Rattle.places.proofs.pixel.Statement.{statement}
 use Rattle.places.proofs.pixel.Tie as tie
 
-module-place-requires : tie.Need-module-place-requires
-module-place-requires c κs = search needs
-
 abbrev place : (k : tie.Start) → ℤ
 place k = modulePlace (k .args .axis) (k .args .side) (k .args .i) (k .args .j)
 
@@ -39,24 +36,12 @@ returns c =
     below-zero (place (c .before .before)) (4096 * c .before .before .args .side)
     (subst (λ (z : ℤ). ltZ z (pos 0) ≡ true) (known (c .before) .is) (c .if1 .taken))
 
-cast-side : tie.Need-cast-side
-cast-side c = search needs
-
 cast-result : tie.Need-cast-result
 cast-result c =
     (not-below (toZ w64 (ofZ w64 (c .before .module-place .result))) (c .if1 .left), record { fits = omega (arith, small (c .before)) })
 
-mul-result : tie.Need-mul-result
-mul-result c = search needs
-
 add-result : tie.Need-add-result
 add-result c = omega (arith, small (c .before))
-
-mul-result-2 : tie.Need-mul-result-2
-mul-result-2 c = search needs
-
-div-result : tie.Need-div-result
-div-result c = search needs
 
 cast-result-2 : tie.Need-cast-result-2
 cast-result-2 c =
@@ -76,13 +61,13 @@ pub pixel-spec : {M : Type 1} → statement M
 pixel-spec =
     tie.close
     (tie.spec
-    module-place-requires
+    (λ c κs. search needs)  -- module-place-requires
     returns
-    cast-side
+    (λ c. search needs)  -- cast-side
     cast-result
-    mul-result
+    (λ c. search needs)  -- mul-result
     add-result
-    mul-result-2
-    div-result
+    (λ c. search needs)  -- mul-result-2
+    (λ c. search needs)  -- div-result
     cast-result-2
     returns-2)

@@ -19,12 +19,14 @@ returns c = let k = c .before in float-negative (k .args .x) (held k) (k .pre) (
 nearest-times-requires : tie.Need-nearest-times-requires
 nearest-times-requires c κs = let k = c .before in (near (k .args .x) (held k) (k .pre), search needs)
 
-cast-result : tie.Need-cast-result
-cast-result c = search needs
-
 returns-2 : tie.Need-returns-2
 returns-2 c = let k = c .before .before in c .nearest-times .ensures ∙ float-positive (k .args .x) (held k) (k .pre) (c .before .if1 .left)
 
 pub pixel-of-spec : {M : Type 1} → statement M
 pixel-of-spec =
-    tie.close (tie.spec float-to-bits-pattern returns nearest-times-requires cast-result returns-2)
+    tie.close (tie.spec
+    float-to-bits-pattern
+    returns
+    nearest-times-requires
+    (λ c. search needs)  -- cast-result
+    returns-2)

@@ -6,15 +6,6 @@ use Rattle.readbits_lines.specs.Word.{isDecimal, isLetter, isDigit, digi
 use Rattle.readbits_lines.proofs.digit.Statement.{statement}
 use Rattle.readbits_lines.proofs.digit.Tie as tie
 
-cast-t5 : tie.Need-cast-t5
-cast-t5 c = search needs
-
-add-t7 : tie.Need-add-t7
-add-t7 c = search needs
-
-cast-t8 : tie.Need-cast-t8
-cast-t8 c = search needs
-
 -- 0 to 9
 returns : tie.Need-returns
 unfolding isDecimal isLetter isDigit digitNumber
@@ -52,4 +43,12 @@ returns-5 c =
 
 pub digit-spec : {M : Type 1} → statement M
 digit-spec =
-    tie.close (tie.spec cast-t5 add-t7 cast-t8 returns returns-2 returns-3 returns-4 returns-5)
+    tie.close (tie.spec
+    (λ c. search needs)  -- cast-t5
+    (λ c. search needs)  -- add-t7
+    (λ c. search needs)  -- cast-t8
+    returns
+    returns-2
+    returns-3
+    returns-4
+    returns-5)

@@ -8,24 +8,6 @@ use Rattle.readbits_lines.proofs.Join.{copied}
 use Rattle.readbits_lines.proofs.put.Statement.{statement}
 use Rattle.readbits_lines.proofs.put.Tie as tie
 
-sub-copy : tie.Need-sub-copy
-sub-copy c = search needs
-
-part-copy-start : tie.Need-part-copy-start
-part-copy-start c = search needs
-
-part-copy-end : tie.Need-part-copy-end
-part-copy-end c = search needs
-
-copy-requires : tie.Need-copy-requires
-copy-requires c κs = search needs
-
-add-result : tie.Need-add-result
-add-result c = search needs
-
-same-length : tie.Need-same-length
-same-length c = search needs
-
 returns : tie.Need-returns
 returns c =
     let a = c .before .before .before .before .before .before .args in
@@ -37,4 +19,11 @@ returns c =
 pub put-spec : {M : Type 1} → statement M
 put-spec =
     tie.close
-    (tie.spec sub-copy part-copy-start part-copy-end copy-requires add-result same-length returns)
+    (tie.spec
+    (λ c. search needs)  -- sub-copy
+    (λ c. search needs)  -- part-copy-start
+    (λ c. search needs)  -- part-copy-end
+    (λ c κs. search needs)  -- copy-requires
+    (λ c. search needs)  -- add-result
+    (λ c. search needs)  -- same-length
+    returns)

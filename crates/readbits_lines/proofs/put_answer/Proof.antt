@@ -19,24 +19,6 @@ found c =
     let f = c .before .before .before in
     tag-found (f .before .before .args .bits) (f .search-t16h5 .result) (f .search-t16h5 .ensures) (c .before .id .given .0 .0) (c .before .id .given .0 .1 .0) (c .before .id .given .1)
 
-search-t16h5-requires : tie.Need-search-t16h5-requires
-search-t16h5-requires c κs = search needs
-
-enum-known-id : tie.Need-enum-known-id
-enum-known-id c = search needs
-
-enum-told : tie.Need-enum-told
-enum-told c = search needs
-
-slice-aggregate-put : tie.Need-slice-aggregate-put
-slice-aggregate-put c = search needs
-
-put-requires : tie.Need-put-requires
-put-requires c κs = search needs
-
-same-length : tie.Need-same-length
-same-length c = search needs
-
 returns : tie.Need-returns
 returns c =
     let f = c .before .before .before .before .before .before .before in
@@ -70,9 +52,6 @@ put-byte-requires c κs =
       decimal-length turn (omega (arith, t .turn-lt)),
     )
 
-same-length-2 : tie.Need-same-length-2
-same-length-2 c = search needs
-
 returns-2 : tie.Need-returns-2
 returns-2 c =
     let k = c .before .before .before .before .before .before .before .before .before .before .before .before in
@@ -96,16 +75,16 @@ pub put-answer-spec : {M : Type 1} → statement M
 put-answer-spec =
     tie.close
     (tie.spec
-    search-t16h5-requires
-    enum-known-id
-    enum-told
-    slice-aggregate-put
-    put-requires
-    same-length
+    (λ c κs. search needs)  -- search-t16h5-requires
+    (λ c. search needs)  -- enum-known-id
+    (λ c. search needs)  -- enum-told
+    (λ c. search needs)  -- slice-aggregate-put
+    (λ c κs. search needs)  -- put-requires
+    (λ c. search needs)  -- same-length
     returns
     cast-put-number
     put-number-requires
     put-number-requires-2
     put-byte-requires
-    same-length-2
+    (λ c. search needs)  -- same-length-2
     returns-2)

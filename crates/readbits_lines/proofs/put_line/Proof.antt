@@ -14,24 +14,6 @@ use Rattle.readbits_lines.proofs.Lines.{word-prints, bad-prints, word-f
 use Rattle.readbits_lines.proofs.put_line.Statement.{statement}
 use Rattle.readbits_lines.proofs.put_line.Tie as tie
 
-word-requires : tie.Need-word-requires
-word-requires c κs = search needs
-
-enum-known-bits : tie.Need-enum-known-bits
-enum-known-bits c = search needs
-
-enum-told : tie.Need-enum-told
-enum-told c = search needs
-
-slice-aggregate-put : tie.Need-slice-aggregate-put
-slice-aggregate-put c = search needs
-
-put-requires : tie.Need-put-requires
-put-requires c κs = search needs
-
-same-length : tie.Need-same-length
-same-length c = search needs
-
 returns : tie.Need-returns
 returns c =
     let w = c .before .before .before .before .before .before .before in
@@ -39,18 +21,12 @@ returns c =
     as-text (bad-prints line (was-bad (isWord line) (numberOf line) (sym (w .word .ensures) ∙ c .before .before .before .before .before .enum-told .given .1)))
     (c .before .before .put .ensures)
 
-put-requires-2 : tie.Need-put-requires-2
-put-requires-2 c κs = search needs
-
 put-answer-requires : tie.Need-put-answer-requires
 put-answer-requires c κs =
     let w = c .before .before .before .before .before .before .before .before in
     let line = now (w .before .before .before .args .line) in
     let e = was-number (isWord line) (numberOf line) (c .before .before .before .before .before .before .bits .given .0 .0) (sym (w .word .ensures) ∙ c .before .before .before .before .before .before .bits .given .1) in
     omega (arith, word-four line (e .0), c .before .before .before .put2 .ensures .place)
-
-same-length-2 : tie.Need-same-length-2
-same-length-2 c = search needs
 
 returns-2 : tie.Need-returns-2
 returns-2 c =
@@ -66,14 +42,14 @@ pub put-line-spec : {M : Type 1} → statement M
 put-line-spec =
     tie.close
     (tie.spec
-    word-requires
-    enum-known-bits
-    enum-told
-    slice-aggregate-put
-    put-requires
-    same-length
+    (λ c κs. search needs)  -- word-requires
+    (λ c. search needs)  -- enum-known-bits
+    (λ c. search needs)  -- enum-told
+    (λ c. search needs)  -- slice-aggregate-put
+    (λ c κs. search needs)  -- put-requires
+    (λ c. search needs)  -- same-length
     returns
-    put-requires-2
+    (λ c κs. search needs)  -- put-requires-2
     put-answer-requires
-    same-length-2
+    (λ c. search needs)  -- same-length-2
     returns-2)

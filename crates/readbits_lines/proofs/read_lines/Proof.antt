@@ -20,30 +20,12 @@ abbrev μ-loop : tie.MeasureT-loop
 loop-holds : tie.Need-loop-holds Inv-loop μ-loop
 loop-holds c = (omega arith, omega arith, refl, printing-none (now (c .before .before .args .input)) (now (c .before .before .args .out)))
 
-find-requires : tie.Need-find-requires Inv-loop μ-loop
-find-requires c κs = search needs
-
-sub-put-line : tie.Need-sub-put-line Inv-loop μ-loop
-sub-put-line c = search needs
-
-part-put-line-start : tie.Need-part-put-line-start Inv-loop μ-loop
-part-put-line-start c = search needs
-
-part-put-line-end : tie.Need-part-put-line-end Inv-loop μ-loop
-part-put-line-end c = search needs
-
 put-line-requires : tie.Need-put-line-requires Inv-loop μ-loop
 put-line-requires c κs =
     let l = c .before .before .before .before in
     let input = now (l .before .before .before .args .input) in
     let end = c .before .before .find .result in
     (omega arith, omega (arith, length-take (end - l .loop .at) (drop (l .loop .at) input), length-drop (l .loop .at) input))
-
-add-at : tie.Need-add-at Inv-loop μ-loop
-add-at c = search needs
-
-loop-less : tie.Need-loop-less Inv-loop μ-loop
-loop-less c = search needs
 
 loop-again : tie.Need-loop-again Inv-loop μ-loop
 loop-again c =
@@ -63,9 +45,6 @@ loop-again c =
       printing-more input (now (a .out)) (l .loop .out) at (l .loop .done) (l .loop .inv .3) h (f .result) (f .ensures .0) (omega arith) (p .last .1 .0) (p .result) (p .ensures),
     )
 
-same-length : tie.Need-same-length Inv-loop μ-loop
-same-length c = search needs
-
 returns : tie.Need-returns Inv-loop μ-loop
 returns c =
     let l = c .before in
@@ -79,13 +58,13 @@ read-lines-spec =
     Inv-loop
     μ-loop
     loop-holds
-    find-requires
-    sub-put-line
-    part-put-line-start
-    part-put-line-end
+    (λ c κs. search needs)  -- find-requires
+    (λ c. search needs)  -- sub-put-line
+    (λ c. search needs)  -- part-put-line-start
+    (λ c. search needs)  -- part-put-line-end
     put-line-requires
-    add-at
-    loop-less
+    (λ c. search needs)  -- add-at
+    (λ c. search needs)  -- loop-less
     loop-again
-    same-length
+    (λ c. search needs)  -- same-length
     returns)

@@ -9,12 +9,6 @@ use Rattle.search.specs.Search.{search as sought}
 use Rattle.readbits_lines.proofs.search_t16h5.Statement.{statement}
 use Rattle.readbits_lines.proofs.search_t16h5.Tie as tie
 
-family-requires : tie.Need-family-requires
-family-requires c κs = search needs
-
-slice-aggregate-best-tag : tie.Need-slice-aggregate-best-tag
-slice-aggregate-best-tag c = search needs
-
 best-tag-requires : tie.Need-best-tag-requires
 best-tag-requires c κs = let e = ap (λ (f : Family). f .edge) (c .before .family .ensures) in omega arith
 
@@ -24,4 +18,8 @@ returns c = c .best-tag .ensures ∙ ap (λ (f : Family). sought (c .before .bef
 
 pub search-t16h5-spec : {M : Type 1} → statement M
 search-t16h5-spec =
-    tie.close (tie.spec family-requires slice-aggregate-best-tag best-tag-requires returns)
+    tie.close (tie.spec
+    (λ c κs. search needs)  -- family-requires
+    (λ c. search needs)  -- slice-aggregate-best-tag
+    best-tag-requires
+    returns)

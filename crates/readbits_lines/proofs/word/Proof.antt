@@ -38,17 +38,8 @@ returns c = simp (ne-eqb (length (now (c .before .before .args .line))) 4 (c .if
 loop-holds : tie.Need-loop-holds Inv-loop μ-loop
 loop-holds c = (omega arith, omega arith, refl, refl)
 
-shared-slice-read-digit : tie.Need-shared-slice-read-digit Inv-loop μ-loop
-shared-slice-read-digit c = omega arith
-
 digit-requires : tie.Need-digit-requires Inv-loop μ-loop
 digit-requires c κs = tt
-
-enum-known-d : tie.Need-enum-known-d Inv-loop μ-loop
-enum-known-d c = search needs
-
-enum-told : tie.Need-enum-told Inv-loop μ-loop
-enum-told c = search needs
 
 returns-2 : tie.Need-returns-2 Inv-loop μ-loop
 unfolding isWord
@@ -71,12 +62,6 @@ add-bits c =
     let l = c .before .before .before .before .before .before in
     let h : l .loop .i < 4 = omega arith in
     omega (arith, few-lt (l .loop .i) (l .loop .bits) h (l .loop .inv .1), read c .2)
-
-add-i : tie.Need-add-i Inv-loop μ-loop
-add-i c = omega arith
-
-loop-less : tie.Need-loop-less Inv-loop μ-loop
-loop-less c = omega arith
 
 loop-again : tie.Need-loop-again Inv-loop μ-loop
 loop-again c =
@@ -107,14 +92,14 @@ word-spec =
     μ-loop
     returns
     loop-holds
-    shared-slice-read-digit
+    (λ c. omega arith)  -- shared-slice-read-digit
     digit-requires
-    enum-known-d
-    enum-told
+    (λ c. search needs)  -- enum-known-d
+    (λ c. search needs)  -- enum-told
     returns-2
     mul-bits
     add-bits
-    add-i
-    loop-less
+    (λ c. omega arith)  -- add-i
+    (λ c. omega arith)  -- loop-less
     loop-again
     returns-3)

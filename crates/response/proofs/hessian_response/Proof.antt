@@ -3,7 +3,7 @@ use borrow.Author.Needs.{needs}
 use denote.Ref.{now}
 use mathlib.Core.Path.{_≡_, refl, sym, ap, _∙_}
 use Prim.Native.Nat.{ℕ, _+_, _-_, _*_, _≤_, _<_}
-use native.Mathlib.Nat.{sub-zero, one-mul, mul-le-mul-right}
+use native.Mathlib.Nat.{sub-zero, one-mul, mul-comm, mul-le-mul-right}
 use native.Mathlib.Omega.{arith}
 use lib.ListN.{length, take, drop}
 use lib.Seq.{length-take-le}
@@ -11,20 +11,20 @@ use Rattle.lists.specs.Tab.{tabulate}
 use Rattle.samples.specs.Samples.{zeroF}
 use Rattle.response.specs.Response.{responseAt}
 use Rattle.response.proofs.Border.{first-end, last-end, border-row}
-use Rattle.lists.proofs.Part.{back}
-use Rattle.lists.proofs.Rows.{Written, rows-first, rows-more, rows-all, row-fits, row-span, row-length}
-use Rattle.response.proofs.Pairs.{rows-up-to, two-rows, pair-fits, pair-span, pair-length}
+use Rattle.lists.proofs.Part.{part-length, back}
+use Rattle.lists.proofs.Rows.{Filled, rows-first, rows-more, rows-up-to, rows-all, row-fits, row-span, row-length}
+use Rattle.response.proofs.Pairs.{two-rows, pair-fits}
 use Rattle.response.proofs.hessian_response.Statement.{statement}
 use Rattle.response.proofs.hessian_response.Tie as tie
 
 abbrev Inv-loop : tie.InvT-loop
-Inv-loop img width height out₀ last y₀ out y = (0 < y) × Written (responseAt img width height) width height y out
+Inv-loop img width height out₀ last y₀ out y = (0 < y) × Filled (responseAt img width height) (width * height) (y * width) out
 
 abbrev μ-loop : tie.MeasureT-loop
 μ-loop img width height out₀ last y₀ out y = height - y
 
 abbrev Inv-loop2 : tie.InvT-loop2
-Inv-loop2 img width height out₀ last y₀ out y = (0 < y) × Written (responseAt img width height) width height y out
+Inv-loop2 img width height out₀ last y₀ out y = (0 < y) × Filled (responseAt img width height) (width * height) (y * width) out
 
 abbrev μ-loop2 : tie.MeasureT-loop2
 μ-loop2 img width height out₀ last y₀ out y = height - y
@@ -40,7 +40,7 @@ fits : (c : tie.In-loop Inv-loop μ-loop Inv-loop2 μ-loop2) → let a = St (c .
 fits c = rw (c .before .loop .inv .1 .whole) (pair-fits (St (c .before) .args .width) (St (c .before) .args .height) (c .before .loop .y) (omega (arith, in-turn c)))
 
 wide : (c : tie.In-loop Inv-loop μ-loop Inv-loop2 μ-loop2) → let w = St (c .before) .args .width in length (take (c .before .loop .y * w + w + w - c .before .loop .y * w) (drop (c .before .loop .y * w) (c .before .loop .out))) ≡ w + w
-wide c = pair-length (c .before .loop .out) (St (c .before) .args .width) (c .before .loop .y) (fits c)
+wide c = let w = St (c .before) .args .width in part-length (c .before .loop .out) (c .before .loop .y * w) (c .before .loop .y * w + w + w) (w + w) (fits c) (omega arith)
 
 -- at the second loop's head the same, of row y
 abbrev St2 : tie.At-loop2 Inv-loop μ-loop Inv-loop2 μ-loop2 → tie.Start Inv-loop μ-loop Inv-loop2 μ-loop2
@@ -55,22 +55,10 @@ in-turn2 c = omega (arith, c .loop2-test .taken)
 wide2 : (c : tie.At-loop2 Inv-loop μ-loop Inv-loop2 μ-loop2) (b : c .loop2 .y < St2 c .args .height) → length (take (c .loop2 .y * St2 c .args .width + St2 c .args .width - c .loop2 .y * St2 c .args .width) (drop (c .loop2 .y * St2 c .args .width) (c .loop2 .out))) ≡ St2 c .args .width
 wide2 c b = row-length (c .loop2 .out) (St2 c .args .width) (c .loop2 .y) _ (row-span (St2 c .args .width) (c .loop2 .y)) (fits2 c b)
 
-sub-clear : tie.Need-sub-clear Inv-loop μ-loop Inv-loop2 μ-loop2
-sub-clear c = search needs
-
-part-clear-start : tie.Need-part-clear-start Inv-loop μ-loop Inv-loop2 μ-loop2
-part-clear-start c = search needs
-
 part-clear-end : tie.Need-part-clear-end Inv-loop μ-loop Inv-loop2 μ-loop2
 part-clear-end c =
     let s = c .before .before in
     omega (arith, row-fits (s .args .width) (s .args .height) 0 (s .pre .1), s .pre .3)
-
-clear-requires : tie.Need-clear-requires Inv-loop μ-loop Inv-loop2 μ-loop2
-clear-requires c κs = search needs
-
-sub-last : tie.Need-sub-last Inv-loop μ-loop Inv-loop2 μ-loop2
-sub-last c = search needs
 
 loop-holds : tie.Need-loop-holds Inv-loop μ-loop Inv-loop2 μ-loop2
 loop-holds c =
@@ -80,7 +68,7 @@ loop-holds c =
     let w = a .width in
     let n : length (take (w - 0) (now (a .out))) ≡ w = length-take-le (w - 0) (now (a .out)) (omega (arith, row-fits w (a .height) 0 (s .pre .1), s .pre .3)) ∙ sub-zero w in (
       omega arith,
-      rows-first (responseAt (now (a .img)) w (a .height)) w (a .height) (w - 0) (now (a .out)) (l .clear .last .0) (s .pre .1) (sub-zero w)
+      rows-first (responseAt (now (a .img)) w (a .height)) w (a .height) (now (a .out)) (l .clear .last .0) (s .pre .1)
           (l .clear .ensures ∙ ap (λ (k : ℕ). tabulate k (λ x. zeroF)) n ∙ border-row (now (a .img)) w (a .height) 0 (first-end (a .height) 0 refl))
           (s .pre .3),
     )
@@ -88,7 +76,7 @@ loop-holds c =
 add-loop : tie.Need-add-loop Inv-loop μ-loop Inv-loop2 μ-loop2
 add-loop c =
     let s = St c in
-    omega (arith, c .loop .inv .1 .low, mul-le-mul-right (s .args .height) (s .pre .0), one-mul (s .args .height), s .pre .2, s .good .0 .1)
+    omega (arith, c .loop .inv .1 .low, mul-le-mul-right (c .loop .y) (s .pre .0), one-mul (c .loop .y), mul-comm (s .args .width) (c .loop .y), s .pre .2, s .good .0 .1)
 
 mul-start : tie.Need-mul-start Inv-loop μ-loop Inv-loop2 μ-loop2
 mul-start c = omega (arith, fits c, c .before .loop .inv .1 .whole, St (c .before) .pre .2, St (c .before) .good .0 .0)
@@ -101,12 +89,6 @@ add-end-2 c = omega (arith, fits c, c .before .loop .inv .1 .whole, St (c .befor
 
 mul-inner-pair : tie.Need-mul-inner-pair Inv-loop μ-loop Inv-loop2 μ-loop2
 mul-inner-pair c = omega (arith, fits c, c .before .loop .inv .1 .whole, St (c .before) .pre .2, St (c .before) .good .0 .1)
-
-sub-inner-pair : tie.Need-sub-inner-pair Inv-loop μ-loop Inv-loop2 μ-loop2
-sub-inner-pair c = omega arith
-
-part-inner-pair-start : tie.Need-part-inner-pair-start Inv-loop μ-loop Inv-loop2 μ-loop2
-part-inner-pair-start c = omega arith
 
 part-inner-pair-end : tie.Need-part-inner-pair-end Inv-loop μ-loop Inv-loop2 μ-loop2
 part-inner-pair-end c = fits c
@@ -132,7 +114,7 @@ loop-again c =
     let a = St (t .before) .args in
     let l = t .before .loop in (
       omega arith,
-      rows-up-to (responseAt (now (a .img)) (a .width) (a .height)) (a .width) (a .height) (l .y) (l .y + 2) (a .width + a .width) _ (l .out) (r .inner-pair .last .0) (omega (arith, in-turn t)) (two-rows (a .width) (l .y)) (pair-span (a .width) (l .y))
+      rows-up-to (responseAt (now (a .img)) (a .width) (a .height)) (a .width) (a .height) (l .y) (l .y + 2) (a .width + a .width) (l .y * a .width + a .width + a .width) (l .out) (r .inner-pair .last .0) (omega (arith, in-turn t)) (omega arith) (two-rows (a .width) (l .y))
           (r .inner-pair .ensures) (l .inv .1),
     )
 
@@ -148,12 +130,6 @@ add-end-3 c = omega (arith, fits2 (c .before) (omega (arith, in-turn2 c)), c .be
 mul-inner-row : tie.Need-mul-inner-row Inv-loop μ-loop Inv-loop2 μ-loop2
 mul-inner-row c = omega (arith, fits2 (c .before) (omega (arith, in-turn2 c)), c .before .loop2 .inv .1 .whole, St2 (c .before) .pre .2, St2 (c .before) .good .0 .1)
 
-sub-inner-row : tie.Need-sub-inner-row Inv-loop μ-loop Inv-loop2 μ-loop2
-sub-inner-row c = search needs
-
-part-inner-row-start : tie.Need-part-inner-row-start Inv-loop μ-loop Inv-loop2 μ-loop2
-part-inner-row-start c = search needs
-
 part-inner-row-end : tie.Need-part-inner-row-end Inv-loop μ-loop Inv-loop2 μ-loop2
 part-inner-row-end c = omega (arith, fits2 (c .before) (omega (arith, in-turn2 c)))
 
@@ -163,9 +139,6 @@ inner-row-requires c κs =
     let s = St2 (t .before) in
     let b = wide2 (t .before) (omega (arith, in-turn2 t)) in
     (omega (arith, b, s .pre .0), t .before .loop2 .inv .0, in-turn2 t, s .pre .2 ∙ ap (λ (n : ℕ). n * s .args .height) (sym b))
-
-add-y-2 : tie.Need-add-y-2 Inv-loop μ-loop Inv-loop2 μ-loop2
-add-y-2 c = search needs
 
 loop2-less : tie.Need-loop2-less Inv-loop μ-loop Inv-loop2 μ-loop2
 loop2-less c =
@@ -180,7 +153,7 @@ loop2-again c =
     let l = t .before .loop2 in
     let b : l .y < a .height = omega (arith, in-turn2 t) in (
       omega arith,
-      rows-more (responseAt (now (a .img)) (a .width) (a .height)) (a .width) (a .height) (l .y) _ (l .out) (r .inner-row .last .0) b (row-span (a .width) (l .y))
+      rows-more (responseAt (now (a .img)) (a .width) (a .height)) (a .width) (a .height) (l .y) (l .out) (r .inner-row .last .0) b
           (r .inner-row .ensures ∙ ap (λ (n : ℕ). tabulate n (λ x. responseAt (now (a .img)) n (a .height) (l .y * n + x))) (wide2 (t .before) b))
           (l .inv .1),
     )
@@ -200,27 +173,18 @@ mul-clear c =
     let l = c .before .before in
     omega (arith, fits2 l (c .if1 .taken), l .loop2 .inv .1 .whole, St2 l .pre .2, St2 l .good .0 .1)
 
-sub-clear-2 : tie.Need-sub-clear-2 Inv-loop μ-loop Inv-loop2 μ-loop2
-sub-clear-2 c = search needs
-
-part-clear-start-2 : tie.Need-part-clear-start-2 Inv-loop μ-loop Inv-loop2 μ-loop2
-part-clear-start-2 c = search needs
-
 part-clear-end-2 : tie.Need-part-clear-end-2 Inv-loop μ-loop Inv-loop2 μ-loop2
 part-clear-end-2 c = omega (arith, fits2 (c .before .before) (c .if1 .taken))
 
-clear-requires-2 : tie.Need-clear-requires-2 Inv-loop μ-loop Inv-loop2 μ-loop2
-clear-requires-2 c κs = search needs
-
 -- the last row is written
 whole : (c : tie.After-clear2 Inv-loop μ-loop Inv-loop2 μ-loop2) → let t = c .before .before in let l = t .before .before in let a = St2 l .args in
-    Written (responseAt (now (a .img)) (a .width) (a .height)) (a .width) (a .height) (l .loop2 .y + 1) (back (l .loop2 .out) (l .loop2 .y * a .width) (l .loop2 .y * a .width + a .width - l .loop2 .y * a .width) (c .clear2 .last .0))
+    Filled (responseAt (now (a .img)) (a .width) (a .height)) (a .width * a .height) ((l .loop2 .y + 1) * a .width) (back (l .loop2 .out) (l .loop2 .y * a .width) (l .loop2 .y * a .width + a .width - l .loop2 .y * a .width) (c .clear2 .last .0))
 whole c =
     let t = c .before .before in
     let l = t .before .before in
     let a = St2 l .args in
     let e : l .loop2 .y + 1 ≡ a .height = omega (arith, t .if1 .taken, t .before .loop2-test .left) in
-    rows-more (responseAt (now (a .img)) (a .width) (a .height)) (a .width) (a .height) (l .loop2 .y) _ (l .loop2 .out) (c .clear2 .last .0) (t .if1 .taken) (row-span (a .width) (l .loop2 .y))
+    rows-more (responseAt (now (a .img)) (a .width) (a .height)) (a .width) (a .height) (l .loop2 .y) (l .loop2 .out) (c .clear2 .last .0) (t .if1 .taken)
     (c .clear2 .ensures ∙ ap (λ (k : ℕ). tabulate k (λ x. zeroF)) (wide2 l (t .if1 .taken)) ∙ border-row (now (a .img)) (a .width) (a .height) (l .loop2 .y) (last-end (a .height) (l .loop2 .y) e))
     (l .loop2 .inv .1)
 
@@ -256,19 +220,19 @@ hessian-response-spec =
     μ-loop
     Inv-loop2
     μ-loop2
-    sub-clear
-    part-clear-start
+    (λ c. search needs)  -- sub-clear
+    (λ c. search needs)  -- part-clear-start
     part-clear-end
-    clear-requires
-    sub-last
+    (λ c κs. search needs)  -- clear-requires
+    (λ c. search needs)  -- sub-last
     loop-holds
     add-loop
     mul-start
     add-end
     add-end-2
     mul-inner-pair
-    sub-inner-pair
-    part-inner-pair-start
+    (λ c. omega arith)  -- sub-inner-pair
+    (λ c. omega arith)  -- part-inner-pair-start
     part-inner-pair-end
     inner-pair-requires
     add-y
@@ -278,20 +242,20 @@ hessian-response-spec =
     mul-start-2
     add-end-3
     mul-inner-row
-    sub-inner-row
-    part-inner-row-start
+    (λ c. search needs)  -- sub-inner-row
+    (λ c. search needs)  -- part-inner-row-start
     part-inner-row-end
     inner-row-requires
-    add-y-2
+    (λ c. search needs)  -- add-y-2
     loop2-less
     loop2-again
     mul-start-3
     add-end-4
     mul-clear
-    sub-clear-2
-    part-clear-start-2
+    (λ c. search needs)  -- sub-clear-2
+    (λ c. search needs)  -- part-clear-start-2
     part-clear-end-2
-    clear-requires-2
+    (λ c κs. search needs)  -- clear-requires-2
     same-length
     returns
     same-length-2

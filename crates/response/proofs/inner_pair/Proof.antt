@@ -14,9 +14,6 @@ use borrow.Author.Needs.{needs}
 use Rattle.response.proofs.inner_pair.Statement.{statement}
 use Rattle.response.proofs.inner_pair.Tie as tie
 
-sub-row-of : tie.Need-sub-row-of
-sub-row-of c = search needs
-
 -- a row of the plane lies in it, and is as long as the plane is wide
 lies : (s : tie.Start) (r : ℕ) → r < s .args .height → r * s .args .width + s .args .width ≤ length (now (s .args .img))
 lies s r b = rw (s .pre .4) (row-fits (s .args .width) (s .args .height) r b)
@@ -34,16 +31,10 @@ row-of-requires-2 c κs =
     let s = c .before .before .before in
     lies s (s .args .y) (omega (arith, s .pre .3))
 
-add-row-of : tie.Need-add-row-of
-add-row-of c = search needs
-
 row-of-requires-3 : tie.Need-row-of-requires-3
 row-of-requires-3 c κs =
     let s = c .before .before .before .before in
     lies s (s .args .y + 1) (omega (arith, s .pre .3))
-
-add-row-of-2 : tie.Need-add-row-of-2
-add-row-of-2 c = search needs
 
 row-of-requires-4 : tie.Need-row-of-requires-4
 row-of-requires-4 c κs =
@@ -69,9 +60,6 @@ respond-pair-requires c κs =
       wide s (s .args .y + 2) (now (r .row-of4 .result)) (s .pre .3) (r .row-of4 .ensures) ∙ sym e,
     )
 
-same-length : tie.Need-same-length
-same-length c = search needs
-
 returns : tie.Need-returns
 returns c =
     let p = c .before .before in
@@ -90,13 +78,13 @@ pub inner-pair-spec : {M : Type 1} → statement M
 inner-pair-spec =
     tie.close
     (tie.spec
-    sub-row-of
+    (λ c. search needs)  -- sub-row-of
     row-of-requires
     row-of-requires-2
-    add-row-of
+    (λ c. search needs)  -- add-row-of
     row-of-requires-3
-    add-row-of-2
+    (λ c. search needs)  -- add-row-of-2
     row-of-requires-4
     respond-pair-requires
-    same-length
+    (λ c. search needs)  -- same-length
     returns)

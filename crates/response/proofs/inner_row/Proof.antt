@@ -10,9 +10,6 @@ use borrow.Author.Needs.{needs}
 use Rattle.response.proofs.inner_row.Statement.{statement}
 use Rattle.response.proofs.inner_row.Tie as tie
 
-sub-row-of : tie.Need-sub-row-of
-sub-row-of c = search needs
-
 -- a row of the plane lies in it
 lies : (s : tie.Start) (r : ℕ) → r < s .args .height → r * length (now (s .args .row)) + length (now (s .args .row)) ≤ length (now (s .args .img))
 lies s r b = rw (s .pre .3) (row-fits (length (now (s .args .row))) (s .args .height) r b)
@@ -26,9 +23,6 @@ row-of-requires-2 : tie.Need-row-of-requires-2
 row-of-requires-2 c κs =
     let s = c .before .before .before in
     lies s (s .args .y) (omega (arith, s .pre .2))
-
-add-row-of : tie.Need-add-row-of
-add-row-of c = search needs
 
 row-of-requires-3 : tie.Need-row-of-requires-3
 row-of-requires-3 c κs =
@@ -48,9 +42,6 @@ respond-row-requires c κs =
       ap length (r .row-of3 .ensures) ∙ n (a .y + 1) w refl (lies s (a .y + 1) (s .pre .2)),
     )
 
-same-length : tie.Need-same-length
-same-length c = search needs
-
 returns : tie.Need-returns
 returns c =
     let q = c .before .before in
@@ -65,11 +56,11 @@ pub inner-row-spec : {M : Type 1} → statement M
 inner-row-spec =
     tie.close
     (tie.spec
-    sub-row-of
+    (λ c. search needs)  -- sub-row-of
     row-of-requires
     row-of-requires-2
-    add-row-of
+    (λ c. search needs)  -- add-row-of
     row-of-requires-3
     respond-row-requires
-    same-length
+    (λ c. search needs)  -- same-length
     returns)

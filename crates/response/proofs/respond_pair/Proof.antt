@@ -20,15 +20,6 @@ Inv-loop pair₀ above upper lower below width last x₀ pair x = (0 < x) × Pai
 abbrev μ-loop : tie.MeasureT-loop
 μ-loop pair₀ above upper lower below width last x₀ pair x = length above - x
 
-sub-last : tie.Need-sub-last Inv-loop μ-loop
-sub-last c = search needs
-
-slice-write-pair : tie.Need-slice-write-pair Inv-loop μ-loop
-slice-write-pair c = search needs
-
-mul-pair : tie.Need-mul-pair Inv-loop μ-loop
-mul-pair c = search needs
-
 slice-write-pair-2 : tie.Need-slice-write-pair-2 Inv-loop μ-loop
 slice-write-pair-2 c =
     let s = c .before .before .before .before .before in
@@ -83,9 +74,6 @@ slice-write-pair-4 c =
     let t = c .before .before in
     let l = t .before .loop in
     lt-length-set (l .pair) (l .x) _ (omega (arith, l .inv .1 .whole, t .loop-test .taken))
-
-add-x : tie.Need-add-x Inv-loop μ-loop
-add-x c = search needs
 
 loop-less : tie.Need-loop-less Inv-loop μ-loop
 loop-less c = omega (arith, c .before .before .loop-test .taken)
@@ -163,9 +151,9 @@ respond-pair-spec =
     (tie.spec
     Inv-loop
     μ-loop
-    sub-last
-    slice-write-pair
-    mul-pair
+    (λ c. search needs)  -- sub-last
+    (λ c. search needs)  -- slice-write-pair
+    (λ c. search needs)  -- mul-pair
     slice-write-pair-2
     loop-holds
     determinant-at-requires
@@ -175,7 +163,7 @@ respond-pair-spec =
     add-pair
     mul-pair-3
     slice-write-pair-4
-    add-x
+    (λ c. search needs)  -- add-x
     loop-less
     loop-again
     mul-pair-4

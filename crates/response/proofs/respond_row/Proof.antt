@@ -25,12 +25,6 @@ Inv-loop row₀ above here below last x₀ row x = (0 < x) × (x ≤ length abov
 abbrev μ-loop : tie.MeasureT-loop
 μ-loop row₀ above here below last x₀ row x = length above - x
 
-sub-last : tie.Need-sub-last Inv-loop μ-loop
-sub-last c = search needs
-
-slice-write-row : tie.Need-slice-write-row Inv-loop μ-loop
-slice-write-row c = search needs
-
 -- at the loop's head: the function's start
 abbrev St : tie.At-loop Inv-loop μ-loop → tie.Start Inv-loop μ-loop
 St c = c .before .before .before .before .before
@@ -55,9 +49,6 @@ mul-row c = omega (arith, c .before .loop-test .taken, St (c .before .before) .g
 
 slice-write-row-2 : tie.Need-slice-write-row-2 Inv-loop μ-loop
 slice-write-row-2 c = omega (arith, c .before .before .loop .inv, c .before .loop-test .taken, St (c .before .before) .pre)
-
-add-x : tie.Need-add-x Inv-loop μ-loop
-add-x c = search needs
 
 loop-less : tie.Need-loop-less Inv-loop μ-loop
 loop-less c = omega (arith, c .before .before .loop .inv, c .before .loop-test .taken, St (c .before .before) .pre)
@@ -125,13 +116,13 @@ respond-row-spec =
     (tie.spec
     Inv-loop
     μ-loop
-    sub-last
-    slice-write-row
+    (λ c. search needs)  -- sub-last
+    (λ c. search needs)  -- slice-write-row
     loop-holds
     determinant-at-requires
     mul-row
     slice-write-row-2
-    add-x
+    (λ c. search needs)  -- add-x
     loop-less
     loop-again
     mul-row-2

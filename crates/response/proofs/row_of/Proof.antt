@@ -8,24 +8,6 @@ use borrow.Author.Needs.{needs}
 use Rattle.response.proofs.row_of.Statement.{statement}
 use Rattle.response.proofs.row_of.Tie as tie
 
-mul-start : tie.Need-mul-start
-mul-start c = search needs
-
-add-end : tie.Need-add-end
-add-end c = search needs
-
-mul-result : tie.Need-mul-result
-mul-result c = search needs
-
-sub-result : tie.Need-sub-result
-sub-result c = search needs
-
-part-result-start : tie.Need-part-result-start
-part-result-start c = search needs
-
-part-result-end : tie.Need-part-result-end
-part-result-end c = search needs
-
 returns : tie.Need-returns
 returns c =
     let a = c .before .args in
@@ -34,4 +16,11 @@ returns c =
 pub row-of-spec : {M : Type 1} → statement M
 row-of-spec =
     tie.close
-    (tie.spec mul-start add-end mul-result sub-result part-result-start part-result-end returns)
+    (tie.spec
+    (λ c. search needs)  -- mul-start
+    (λ c. search needs)  -- add-end
+    (λ c. search needs)  -- mul-result
+    (λ c. search needs)  -- sub-result
+    (λ c. search needs)  -- part-result-start
+    (λ c. search needs)  -- part-result-end
+    returns)

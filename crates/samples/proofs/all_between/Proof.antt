@@ -7,8 +7,8 @@ use Prim.Native.Nat.{_≤_, _-_}
 use lib.ListN.{length, drop}
 use lib.Ieee.{nan}
 use Rattle.lists.specs.Tab.{all}
+use Rattle.lists.proofs.All.{gather-more, gather-done}
 use Rattle.samples.specs.Samples.{between}
-use Rattle.samples.proofs.Gather.{gather-more, gather-all}
 use Rattle.samples.proofs.all_between.Statement.{statement}
 use Rattle.samples.proofs.all_between.Tie as tie
 
@@ -22,30 +22,18 @@ abbrev μ-loop : tie.MeasureT-loop
 loop-holds : tie.Need-loop-holds Inv-loop μ-loop
 loop-holds c = (search needs, refl)
 
-mul-v : tie.Need-mul-v Inv-loop μ-loop
-mul-v c = search needs
-
-shared-slice-read-v : tie.Need-shared-slice-read-v Inv-loop μ-loop
-shared-slice-read-v c = search needs
-
-add-i : tie.Need-add-i Inv-loop μ-loop
-add-i c = search needs
-
-loop-less : tie.Need-loop-less Inv-loop μ-loop
-loop-less c = search needs
-
 loop-again : tie.Need-loop-again Inv-loop μ-loop
 loop-again c =
     let t = c .before in
     let l = t .before .loop in
     let a = t .before .before .args in
-    (search needs, gather-more (between (a .low) (a .high)) (now (a .samples)) (l .i) (l .good) nan (t .loop-test .taken) (l .inv .1))
+    (search needs, gather-more (between (a .low) (a .high)) (now (a .samples)) (l .i) nan (t .loop-test .taken) (l .good) _ refl (l .inv .1))
 
 returns : tie.Need-returns Inv-loop μ-loop
 returns c =
     let l = c .before .loop in
     let a = c .before .before .args in
-    gather-all (between (a .low) (a .high)) (now (a .samples)) (l .i) (l .good) (c .loop-test .left) (l .inv .1)
+    gather-done (between (a .low) (a .high)) (now (a .samples)) (l .i) (c .loop-test .left) (l .good) (l .inv .1)
 
 pub all-between-spec : {M : Type 1} → statement M
 all-between-spec =
@@ -54,9 +42,9 @@ all-between-spec =
     Inv-loop
     μ-loop
     loop-holds
-    mul-v
-    shared-slice-read-v
-    add-i
-    loop-less
+    (λ c. search needs)  -- mul-v
+    (λ c. search needs)  -- shared-slice-read-v
+    (λ c. search needs)  -- add-i
+    (λ c. search needs)  -- loop-less
     loop-again
     returns)

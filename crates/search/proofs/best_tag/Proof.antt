@@ -4,10 +4,9 @@ use mathlib.Core.List.{List}
 use Prim.Native.Nat.{ℕ, suc, _+_, _-_, _≤_, _<_}
 use native.Mathlib.Numerals.{add-one}
 use native.Mathlib.Omega.{arith}
-use borrow.Author.Needs.{needs}
-use Rattle.refusals.specs.Outcome.{Outcome, accepted}
+use Rattle.refusals.specs.Outcome.{accepted}
 use Rattle.word.specs.Word.{turn}
-use Rattle.search.specs.Search.{fewest, firstAt, Seen, searchFrom, search}
+use Rattle.search.specs.Search.{fewest, firstAt, searchFrom, search}
 use Rattle.search.specs.declared.Best.{Best}
 use Rattle.search.proofs.Search.{hit, miss, none-left}
 use Rattle.search.proofs.best_tag.Statement.{statement}
@@ -52,12 +51,6 @@ returns c =
 rotate-bits-requires : tie.Need-rotate-bits-requires Inv-loop μ-loop
 rotate-bits-requires c κs = (omega arith, omega arith)
 
-add-turn : tie.Need-add-turn Inv-loop μ-loop
-add-turn c = omega arith
-
-loop-less : tie.Need-loop-less Inv-loop μ-loop
-loop-less c = omega arith
-
 loop-again : tie.Need-loop-again Inv-loop μ-loop
 loop-again c =
     let l = c .before .before .before .before in
@@ -79,4 +72,14 @@ returns-2 c =
 pub best-tag-spec : {M : Type 1} → statement M
 best-tag-spec =
     tie.close
-    (tie.spec Inv-loop μ-loop loop-holds nearest-requires returns rotate-bits-requires add-turn loop-less loop-again returns-2)
+    (tie.spec
+    Inv-loop
+    μ-loop
+    loop-holds
+    nearest-requires
+    returns
+    rotate-bits-requires
+    (λ c. omega arith)  -- add-turn
+    (λ c. omega arith)  -- loop-less
+    loop-again
+    returns-2)

@@ -3,7 +3,6 @@ use mathlib.Core.Path.{_≡_, refl, sym, ap, _∙_}
 use Prim.Native.Nat.{ℕ, _+_, _-_, _≤_, _<_, min}
 use native.Mathlib.Nat.{min-eq-left, min-eq-right, le-of-lt}
 use native.Mathlib.Omega.{arith}
-use borrow.Author.Needs.{needs}
 use mathlib.Core.Logic.{⊎-elim}
 use mathlib.Core.List.{List}
 use lib.ListN.{length, getD, take}
@@ -25,12 +24,6 @@ loop-holds : tie.Need-loop-holds Inv-loop μ-loop
 unfolding fewest
 loop-holds c = (omega arith, refl)
 
-mul-differing-bits : tie.Need-mul-differing-bits Inv-loop μ-loop
-mul-differing-bits c = omega arith
-
-shared-slice-read-differing-bits : tie.Need-shared-slice-read-differing-bits Inv-loop μ-loop
-shared-slice-read-differing-bits c = omega arith
-
 differing-bits-requires : tie.Need-differing-bits-requires Inv-loop μ-loop
 differing-bits-requires c κs = tt
 
@@ -38,12 +31,6 @@ cast-d : tie.Need-cast-d Inv-loop μ-loop
 cast-d c =
     let a = c .before .before .before .before .before .args in
     omega (arith, c .differing-bits .ensures, differing-le 64 (a .bits) (getD (a .codes .now) (c .before .before .before .loop .i) 0))
-
-add-i : tie.Need-add-i Inv-loop μ-loop
-add-i c = omega arith
-
-loop-less : tie.Need-loop-less Inv-loop μ-loop
-loop-less c = omega arith
 
 -- one code more, which differs in x bits
 module _ (w : ℕ) (codes : List ℕ) (i least least′ x : ℕ) (more : i < length codes) (amount : x ≡ differing w (getD codes i 0)) (e : least ≡ fewest w (take i codes)) where
@@ -84,11 +71,11 @@ fewest-bits-spec =
     Inv-loop
     μ-loop
     loop-holds
-    mul-differing-bits
-    shared-slice-read-differing-bits
+    (λ c. omega arith)  -- mul-differing-bits
+    (λ c. omega arith)  -- shared-slice-read-differing-bits
     differing-bits-requires
     cast-d
-    add-i
-    loop-less
+    (λ c. omega arith)  -- add-i
+    (λ c. omega arith)  -- loop-less
     loop-again
     returns)

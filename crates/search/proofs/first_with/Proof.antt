@@ -1,10 +1,9 @@
 -- None of the first i codes differs in so many bits. Assumes nothing.
-use mathlib.Core.Path.{_≡_, refl, sym, ap, _∙_}
-use Prim.Native.Nat.{ℕ, suc, _+_, _-_, _≤_, _<_}
+use mathlib.Core.Path.{_≡_, sym, ap, _∙_}
+use Prim.Native.Nat.{ℕ, _+_, _-_, _≤_}
 use native.Mathlib.Nat.{zero-add, add-zero}
 use native.Mathlib.Numerals.{add-one}
 use native.Mathlib.Omega.{arith}
-use borrow.Author.Needs.{needs}
 use lib.ListN.{length, getD, drop}
 use Rattle.word.proofs.Differing.{differing-le}
 use Rattle.search.specs.Search.{firstAt}
@@ -21,12 +20,6 @@ abbrev μ-loop : tie.MeasureT-loop
 loop-holds : tie.Need-loop-holds Inv-loop μ-loop
 loop-holds c = (omega arith, sym (zero-add _))
 
-mul-differing-bits : tie.Need-mul-differing-bits Inv-loop μ-loop
-mul-differing-bits c = omega arith
-
-shared-slice-read-differing-bits : tie.Need-shared-slice-read-differing-bits Inv-loop μ-loop
-shared-slice-read-differing-bits c = omega arith
-
 differing-bits-requires : tie.Need-differing-bits-requires Inv-loop μ-loop
 differing-bits-requires c κs = tt
 
@@ -41,12 +34,6 @@ returns c =
     let a = l .before .before .args in
     let h = first-here (a .bits) (a .differing) (a .codes .now) (l .loop .i) (omega arith) (sym (c .before .differing-bits .ensures) ∙ c .if1 .taken) in
     sym (l .loop .inv .1 ∙ ap (λ (n : ℕ). l .loop .i + n) h ∙ add-zero (l .loop .i))
-
-add-i : tie.Need-add-i Inv-loop μ-loop
-add-i c = omega arith
-
-loop-less : tie.Need-loop-less Inv-loop μ-loop
-loop-less c = omega arith
 
 loop-again : tie.Need-loop-again Inv-loop μ-loop
 loop-again c =
@@ -68,12 +55,12 @@ first-with-spec =
     Inv-loop
     μ-loop
     loop-holds
-    mul-differing-bits
-    shared-slice-read-differing-bits
+    (λ c. omega arith)  -- mul-differing-bits
+    (λ c. omega arith)  -- shared-slice-read-differing-bits
     differing-bits-requires
     cast-if1
     returns
-    add-i
-    loop-less
+    (λ c. omega arith)  -- add-i
+    (λ c. omega arith)  -- loop-less
     loop-again
     returns-2)

@@ -29,20 +29,8 @@ loop-holds : tie.Need-loop-holds Inv-loop μ-loop
 unfolding fewest
 loop-holds c = record { inside = omega arith; before = omega arith; least = refl; more = λ k h. absurd (not-suc-le-zero h) }
 
-block-end-requires : tie.Need-block-end-requires Inv-loop μ-loop
-block-end-requires c κs = omega arith
-
-mul-fewest-bits : tie.Need-mul-fewest-bits Inv-loop μ-loop
-mul-fewest-bits c = omega arith
-
 sub-fewest-bits : tie.Need-sub-fewest-bits Inv-loop μ-loop
 sub-fewest-bits c = omega (arith, c .block-end .ensures .0)
-
-part-fewest-bits-start : tie.Need-part-fewest-bits-start Inv-loop μ-loop
-part-fewest-bits-start c = search needs
-
-part-fewest-bits-end : tie.Need-part-fewest-bits-end Inv-loop μ-loop
-part-fewest-bits-end c = search needs
 
 fewest-bits-requires : tie.Need-fewest-bits-requires Inv-loop μ-loop
 fewest-bits-requires c κs = tt
@@ -93,12 +81,6 @@ mul-first-with c = omega (arith, c .before .loop .inv .before, c .before .loop .
 sub-first-with : tie.Need-sub-first-with Inv-loop μ-loop
 sub-first-with c = omega (arith, c .before .loop .inv .before, c .before .loop .inv .inside)
 
-part-first-with-start : tie.Need-part-first-with-start Inv-loop μ-loop
-part-first-with-start c = search needs
-
-part-first-with-end : tie.Need-part-first-with-end Inv-loop μ-loop
-part-first-with-end c = search needs
-
 first-with-requires : tie.Need-first-with-requires Inv-loop μ-loop
 first-with-requires c κs = tt
 
@@ -136,11 +118,11 @@ nearest-spec =
     Inv-loop
     μ-loop
     loop-holds
-    block-end-requires
-    mul-fewest-bits
+    (λ c κs. omega arith)  -- block-end-requires
+    (λ c. omega arith)  -- mul-fewest-bits
     sub-fewest-bits
-    part-fewest-bits-start
-    part-fewest-bits-end
+    (λ c. search needs)  -- part-fewest-bits-start
+    (λ c. search needs)  -- part-fewest-bits-end
     fewest-bits-requires
     loop-less
     loop-again
@@ -148,8 +130,8 @@ nearest-spec =
     loop-again-2
     mul-first-with
     sub-first-with
-    part-first-with-start
-    part-first-with-end
+    (λ c. search needs)  -- part-first-with-start
+    (λ c. search needs)  -- part-first-with-end
     first-with-requires
     add-id
     returns)

@@ -36,18 +36,6 @@ loop-holds c =
     let a = c .args in
     (omega arith, sym (ap (λ (t : Bool). t && all (below (2 ^ a .places)) (a .codes .now)) (lt-ltb 0 (2 ^ a .places) (pow-pos (a .places)))))
 
-mul-gathered : tie.Need-mul-gathered Inv-loop μ-loop
-mul-gathered c = omega arith
-
-shared-slice-read-gathered : tie.Need-shared-slice-read-gathered Inv-loop μ-loop
-shared-slice-read-gathered c = omega arith
-
-add-i : tie.Need-add-i Inv-loop μ-loop
-add-i c = omega arith
-
-loop-less : tie.Need-loop-less Inv-loop μ-loop
-loop-less c = omega arith
-
 loop-again : tie.Need-loop-again Inv-loop μ-loop
 loop-again c =
     let l = c .before .before in
@@ -70,4 +58,14 @@ returns c =
 pub all-below-spec : {M : Type 1} → statement M
 all-below-spec =
     tie.close
-    (tie.spec Inv-loop μ-loop loop-holds mul-gathered shared-slice-read-gathered add-i loop-less loop-again shl-result returns)
+    (tie.spec
+    Inv-loop
+    μ-loop
+    loop-holds
+    (λ c. omega arith)  -- mul-gathered
+    (λ c. omega arith)  -- shared-slice-read-gathered
+    (λ c. omega arith)  -- add-i
+    (λ c. omega arith)  -- loop-less
+    loop-again
+    shl-result
+    returns)

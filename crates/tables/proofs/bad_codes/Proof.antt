@@ -6,24 +6,15 @@ use Rattle.tables.specs.Table.{badCodes}
 use Rattle.tables.proofs.bad_codes.Statement.{statement}
 use Rattle.tables.proofs.bad_codes.Tie as tie
 
-bad-edge-requires : tie.Need-bad-edge-requires
-bad-edge-requires c κs = search needs
-
 returns : tie.Need-returns
 unfolding badCodes
 returns c = simp (sym (c .before .bad-edge .ensures) ∙ c .if1 .taken)
-
-is-outside-requires : tie.Need-is-outside-requires
-is-outside-requires c κs = search needs
 
 returns-2 : tie.Need-returns-2
 unfolding badCodes
 returns-2 c =
     let e = c .before .before in
     simp (sym (e .before .bad-edge .ensures) ∙ e .if1 .left, sym (c .before .is-outside .ensures) ∙ c .if2 .taken)
-
-is-outside-requires-2 : tie.Need-is-outside-requires-2
-is-outside-requires-2 c κs = search needs
 
 returns-3 : tie.Need-returns-3
 unfolding badCodes
@@ -47,11 +38,11 @@ pub bad-codes-spec : {M : Type 1} → statement M
 bad-codes-spec =
     tie.close
     (tie.spec
-    bad-edge-requires
+    (λ c κs. search needs)  -- bad-edge-requires
     returns
-    is-outside-requires
+    (λ c κs. search needs)  -- is-outside-requires
     returns-2
-    is-outside-requires-2
+    (λ c κs. search needs)  -- is-outside-requires-2
     returns-3
     codes-fit-requires
     returns-4)

@@ -41,24 +41,6 @@ loop-holds c =
 add-loop : tie.Need-add-loop Inv-loop μ-loop
 add-loop c = omega (arith, c .loop .inv .0, c .before .before .before .good .0 .1)
 
-add-next : tie.Need-add-next Inv-loop μ-loop
-add-next c = search needs
-
-mul-block : tie.Need-mul-block Inv-loop μ-loop
-mul-block c = search needs
-
-sub-block : tie.Need-sub-block Inv-loop μ-loop
-sub-block c = search needs
-
-part-block-start : tie.Need-part-block-start Inv-loop μ-loop
-part-block-start c = search needs
-
-part-block-end : tie.Need-part-block-end Inv-loop μ-loop
-part-block-end c = search needs
-
-all-tame-requires : tie.Need-all-tame-requires Inv-loop μ-loop
-all-tame-requires c κs = search needs
-
 slice-aggregate-lower-each : tie.Need-slice-aggregate-lower-each Inv-loop μ-loop
 slice-aggregate-lower-each c = sym (c .before .before .before .before .loop .inv .1)
 
@@ -68,9 +50,6 @@ lower-each-requires c κs =
     let i = t .before .loop .i in
     let l = now (t .before .before .before .before .args .samples) in
     length-take-le (i + 32 - i) (drop i l) (omega (arith, t .loop-test .taken, length-drop i l)) ∙ block-length i ∙ sym (t .before .loop .inv .1)
-
-loop-less : tie.Need-loop-less Inv-loop μ-loop
-loop-less c = search needs
 
 loop-again : tie.Need-loop-again Inv-loop μ-loop
 loop-again c =
@@ -94,27 +73,6 @@ loop-again c =
 
 slice-aggregate-lowest-of : tie.Need-slice-aggregate-lowest-of Inv-loop μ-loop
 slice-aggregate-lowest-of c = sym (c .before .before .loop .inv .1)
-
-lowest-of-requires : tie.Need-lowest-of-requires Inv-loop μ-loop
-lowest-of-requires c κs = search needs
-
-mul-rest : tie.Need-mul-rest Inv-loop μ-loop
-mul-rest c = search needs
-
-sub-rest : tie.Need-sub-rest Inv-loop μ-loop
-sub-rest c = search needs
-
-part-rest-start : tie.Need-part-rest-start Inv-loop μ-loop
-part-rest-start c = search needs
-
-part-rest-end : tie.Need-part-rest-end Inv-loop μ-loop
-part-rest-end c = search needs
-
-lowest-of-requires-2 : tie.Need-lowest-of-requires-2 Inv-loop μ-loop
-lowest-of-requires-2 c κs = search needs
-
-all-tame-requires-2 : tie.Need-all-tame-requires-2 Inv-loop μ-loop
-all-tame-requires-2 c κs = search needs
 
 returns : tie.Need-returns Inv-loop μ-loop
 returns c =
@@ -141,22 +99,22 @@ find-lowest-spec =
     shared-slice-read-first
     loop-holds
     add-loop
-    add-next
-    mul-block
-    sub-block
-    part-block-start
-    part-block-end
-    all-tame-requires
+    (λ c. search needs)  -- add-next
+    (λ c. search needs)  -- mul-block
+    (λ c. search needs)  -- sub-block
+    (λ c. search needs)  -- part-block-start
+    (λ c. search needs)  -- part-block-end
+    (λ c κs. search needs)  -- all-tame-requires
     slice-aggregate-lower-each
     lower-each-requires
-    loop-less
+    (λ c. search needs)  -- loop-less
     loop-again
     slice-aggregate-lowest-of
-    lowest-of-requires
-    mul-rest
-    sub-rest
-    part-rest-start
-    part-rest-end
-    lowest-of-requires-2
-    all-tame-requires-2
+    (λ c κs. search needs)  -- lowest-of-requires
+    (λ c. search needs)  -- mul-rest
+    (λ c. search needs)  -- sub-rest
+    (λ c. search needs)  -- part-rest-start
+    (λ c. search needs)  -- part-rest-end
+    (λ c κs. search needs)  -- lowest-of-requires-2
+    (λ c κs. search needs)  -- all-tame-requires-2
     returns)

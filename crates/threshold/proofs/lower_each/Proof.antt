@@ -27,33 +27,6 @@ loop-holds c =
     let a = c .before .before .args in
     (omega arith, refl, kept-none (at (now (a .lows)) (now (a .samples))) (now (a .lows)))
 
-mul-lesser : tie.Need-mul-lesser Inv-loop μ-loop
-mul-lesser c = search needs
-
-slice-read-lesser : tie.Need-slice-read-lesser Inv-loop μ-loop
-slice-read-lesser c = search needs
-
-mul-lesser-2 : tie.Need-mul-lesser-2 Inv-loop μ-loop
-mul-lesser-2 c = search needs
-
-shared-slice-read-lesser : tie.Need-shared-slice-read-lesser Inv-loop μ-loop
-shared-slice-read-lesser c = search needs
-
-lesser-requires : tie.Need-lesser-requires Inv-loop μ-loop
-lesser-requires c κs = search needs
-
-mul-lows : tie.Need-mul-lows Inv-loop μ-loop
-mul-lows c = search needs
-
-slice-write-lows : tie.Need-slice-write-lows Inv-loop μ-loop
-slice-write-lows c = search needs
-
-add-i : tie.Need-add-i Inv-loop μ-loop
-add-i c = search needs
-
-loop-less : tie.Need-loop-less Inv-loop μ-loop
-loop-less c = search needs
-
 loop-again : tie.Need-loop-again Inv-loop μ-loop
 loop-again c =
     let t = c .before .before .before in
@@ -84,15 +57,15 @@ lower-each-spec =
     Inv-loop
     μ-loop
     loop-holds
-    mul-lesser
-    slice-read-lesser
-    mul-lesser-2
-    shared-slice-read-lesser
-    lesser-requires
-    mul-lows
-    slice-write-lows
-    add-i
-    loop-less
+    (λ c. search needs)  -- mul-lesser
+    (λ c. search needs)  -- slice-read-lesser
+    (λ c. search needs)  -- mul-lesser-2
+    (λ c. search needs)  -- shared-slice-read-lesser
+    (λ c κs. search needs)  -- lesser-requires
+    (λ c. search needs)  -- mul-lows
+    (λ c. search needs)  -- slice-write-lows
+    (λ c. search needs)  -- add-i
+    (λ c. search needs)  -- loop-less
     loop-again
     same-length
     returns)

@@ -8,12 +8,6 @@ use borrow.Author.Needs.{needs}
 use Rattle.threshold.proofs.response_threshold.Statement.{statement}
 use Rattle.threshold.proofs.response_threshold.Tie as tie
 
-find-lowest-requires : tie.Need-find-lowest-requires
-find-lowest-requires c κs = search needs
-
-threshold-of-requires : tie.Need-threshold-of-requires
-threshold-of-requires c κs = search needs
-
 returns : tie.Need-returns
 returns c =
     let q = c .before in
@@ -28,4 +22,7 @@ returns c =
 
 pub response-threshold-spec : {M : Type 1} → statement M
 response-threshold-spec =
-    tie.close (tie.spec find-lowest-requires threshold-of-requires returns)
+    tie.close (tie.spec
+    (λ c κs. search needs)  -- find-lowest-requires
+    (λ c κs. search needs)  -- threshold-of-requires
+    returns)

@@ -10,12 +10,6 @@ use Rattle.word.proofs.source_place.Tie as tie
 mul-result : tie.Need-mul-result
 mul-result c = let a = c .args in omega (arith, place-lt (a .edge) (a .j) (a .edge - 1 - a .i) (omega arith) (omega arith) (omega arith))
 
-sub-result : tie.Need-sub-result
-sub-result c = search needs
-
-sub-result-2 : tie.Need-sub-result-2
-sub-result-2 c = search needs
-
 add-result : tie.Need-add-result
 add-result c = let a = c .args in omega (arith, place-lt (a .edge) (a .j) (a .edge - 1 - a .i) (omega arith) (omega arith) (omega arith))
 
@@ -25,4 +19,9 @@ returns c =
     (sym (source-at (a .edge) (a .i) (a .j) (omega arith)), place-lt (a .edge) (a .j) (a .edge - 1 - a .i) (omega arith) (omega arith) (omega arith))
 
 pub source-place-spec : {M : Type 1} → statement M
-source-place-spec = tie.close (tie.spec mul-result sub-result sub-result-2 add-result returns)
+source-place-spec = tie.close (tie.spec
+    mul-result
+    (λ c. search needs)  -- sub-result
+    (λ c. search needs)  -- sub-result-2
+    add-result
+    returns)

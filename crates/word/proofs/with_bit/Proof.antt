@@ -7,13 +7,12 @@ use borrow.Author.Needs.{needs}
 use Rattle.word.proofs.with_bit.Statement.{statement}
 use Rattle.word.proofs.with_bit.Tie as tie
 
-shl-result : tie.Need-shl-result
-shl-result c = search needs
-
 returns : tie.Need-returns
 returns c =
     let a = c .args in
     ap (bitOr (a .b)) (shl-exact 1 (a .k) 64 (c .pre .2) (omega arith)) ∙ or-shifted-r (a .x) (a .k) (a .b) (c .pre .1)
 
 pub with-bit-spec : {M : Type 1} → statement M
-with-bit-spec = tie.close (tie.spec shl-result returns)
+with-bit-spec = tie.close (tie.spec
+    (λ c. search needs)  -- shl-result
+    returns)

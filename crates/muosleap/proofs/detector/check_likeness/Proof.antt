@@ -2,7 +2,7 @@
 use mathlib.Core.Path.{sym, _∙_}
 use mathlib.Core.Bool.{_||_}
 use borrow.Author.Needs.{needs}
-use Rattle.lists.proofs.All.{or-right}
+use Rattle.lists.proofs.Bools.{or-right}
 use Rattle.tables.specs.Table.{badBorder, badCodes, badTable}
 use Rattle.muosleap.specs.Likeness.{checkLikeness}
 use Rattle.muosleap.proofs.detector.check_likeness.Statement.{statement}
