@@ -1,13 +1,12 @@
 // The response, two rows at a time.
 use samples::clear;
 ghost use mathlib.Core.Path.{_≡_};
-ghost use mathlib.Core.List.{_++_};
 ghost use Prim.Native.Nat.{_+_, _*_, _<_, _≤_};
 ghost use lib.ListN.{length, getD, take, drop};
 ghost use lib.Ieee.{nan};
 ghost use Rattle.lists.specs.Tab.{tabulate};
 ghost use Rattle.response.specs.Response.{determinantAt, responseAt, response};
-ghost use Rattle.response.specs.Steps.{rowResponse};
+ghost use Rattle.response.specs.Steps.{rowResponse, FourRows, pairResponse};
 
 // The response at place `x` of a row, from its nine samples in the fixed order of operations.
 fn determinant_at(above: &[f32], here: &[f32], below: &[f32], x: usize) -> f32
@@ -49,8 +48,8 @@ fn respond_row(row: &mut [f32], above: &[f32], here: &[f32], below: &[f32])
 // Two rows off the border, one below the other in `pair`: the response at `upper` and at `lower`. Both determinants are worked
 // out before either is written, so that the samples which they share are read once.
 fn respond_pair(pair: &mut [f32], above: &[f32], upper: &[f32], lower: &[f32], below: &[f32])
-    requires { ⌜ (0 < length (now above)) × (length (now pair) ≡ length (now above) + length (now above)) × (length (now upper) ≡ length (now above)) × (length (now lower) ≡ length (now above)) × (length (now below) ≡ length (now above)) ⌝ }
-    ensures { λ _. ⌜ now (pair .exit) ≡ tabulate (length (now (above .entry))) (rowResponse (now (above .entry)) (now (upper .entry)) (now (lower .entry)) (length (now (above .entry)))) ++ tabulate (length (now (above .entry))) (rowResponse (now (upper .entry)) (now (lower .entry)) (now (below .entry)) (length (now (above .entry)))) ⌝ }
+    requires { ⌜ FourRows (now pair) (now above) (now upper) (now lower) (now below) ⌝ }
+    ensures { λ _. ⌜ now (pair .exit) ≡ pairResponse (now (above .entry)) (now (upper .entry)) (now (lower .entry)) (now (below .entry)) ⌝ }
 {
     let width = above.len();
     let last = width - 1;
