@@ -1,108 +1,83 @@
 // One tag, painted and read from its four starts.
-use crate::counts::Tally;
+use muosleap::detector::try_decode_quad;
+use muosleap::detector::try_decode_quad_in;
 use muosleap::painting::Painted;
+use muosleap::painting::paint_tag;
+use muosleap::painting::paint_tag_in;
 use painter::Print;
-use points::Point;
 use points::Quad;
-use reader::Reading;
-use refusals::Frame;
-ghost use Prim.Native.Nat.{_≤_};
+use points::answer_corners;
+use points::rotate_left;
+use tables::Family;
+use vectors::Tally;
+use vectors::answers::Answer;
+use vectors::answers::answer_of;
+use vectors::answers::found;
+use vectors::answers::same;
+use vectors::frame_of;
+use vectors::product;
 
-// What is painted: the family by its number, the code by its position, the word for it, and the side of the plane in pixels.
+// What is painted: the table by its number and as it is lent, the code by its position, the word for it, the print, and the side of
+// the plane in pixels.
 pub struct Sheet {
     pub number: u8,
+    pub family: Family,
     pub id: usize,
     pub word: u64,
+    pub print: Print,
     pub wide: usize,
 }
 
-fn same_point(a: Point, b: Point) -> bool {
-    if a.x != b.x {
-        return false;
-    }
-    a.y == b.y
+// What a start of the painter's quad is to be read as.
+pub fn own(id: usize, quad: Quad, start: u8) -> Answer {
+    found(id, (4 - start % 4) % 4, answer_corners(quad, 0))
 }
 
-// Whether the corners are the quad's fourth, third, second and first.
-pub fn in_print_order(corners: Quad, quad: Quad) -> bool {
-    if !same_point(corners.q0, quad.q3) {
-        return false;
+// Whether a start is read as demand 3 has it: with the table lent, and for a family by its number too.
+fn reads_own(plane: &[u8], codes: &[u64], sheet: Sheet, quad: Quad, start: u8) -> bool {
+    let frame = frame_of(sheet.wide, sheet.wide);
+    let turned = rotate_left(quad, start);
+    let answer = own(sheet.id, quad, start);
+    let lent = answer_of(try_decode_quad(plane, frame, sheet.family, codes, turned));
+    if 5 <= sheet.number {
+        return same(lent, answer);
     }
-    if !same_point(corners.q1, quad.q2) {
-        return false;
-    }
-    if !same_point(corners.q2, quad.q1) {
-        return false;
-    }
-    same_point(corners.q3, quad.q0)
+    let known = answer_of(try_decode_quad_in(plane, frame, sheet.number, turned));
+    same(lent, answer) & same(known, answer)
 }
 
-// The turn of a start's reading.
-pub fn own_turn(start: u8) -> u8 {
-    (4 - start % 4) % 4
-}
-
-// Whether a start of the painter's quad is read as demand 3 has it.
-fn reads_own(plane: &[u8], sheet: Sheet, quad: Quad, start: u8) -> bool {
-    let frame = Frame {
-        width: sheet.wide,
-        height: sheet.wide,
-    };
-    let turned = points::rotate_left(quad, start);
-    let reading = muosleap::detector::try_decode_quad_in(plane, frame, sheet.number, turned);
-    match reading {
-        Reading::Refused(_) => false,
-        Reading::Tag { id, turn, corners } => {
-            if id != sheet.id {
-                return false;
-            }
-            if turn != own_turn(start) {
-                return false;
-            }
-            in_print_order(corners, quad)
-        }
+pub fn paint(plane: &mut [u8], sheet: Sheet) -> Painted {
+    let frame = frame_of(sheet.wide, sheet.wide);
+    if sheet.number < 5 {
+        return paint_tag_in(plane, frame, sheet.number, sheet.word, sheet.print);
     }
+    paint_tag(
+        plane,
+        frame,
+        sheet.family.edge,
+        sheet.family.border,
+        sheet.word,
+        sheet.print,
+    )
 }
 
-fn four_starts(plane: &[u8], sheet: Sheet, quad: Quad, tally: Tally) -> Tally {
-    let first = tally.count(reads_own(plane, sheet, quad, 0));
-    let second = first.count(reads_own(plane, sheet, quad, 1));
-    let third = second.count(reads_own(plane, sheet, quad, 2));
-    third.count(reads_own(plane, sheet, quad, 3))
+fn four_starts(plane: &[u8], codes: &[u64], sheet: Sheet, quad: Quad, tally: Tally) -> Tally {
+    tally
+        .count(reads_own(plane, codes, sheet, quad, 0), sheet.id)
+        .count(reads_own(plane, codes, sheet, quad, 1), sheet.id)
+        .count(reads_own(plane, codes, sheet, quad, 2), sheet.id)
+        .count(reads_own(plane, codes, sheet, quad, 3), sheet.id)
 }
 
-// Four readings that there are not.
-fn no_start(tally: Tally) -> Tally {
-    tally.count(false).count(false).count(false).count(false)
-}
-
-fn paint_and_read(plane: &mut [u8], sheet: Sheet, print: Print, tally: Tally) -> Tally {
-    let frame = Frame {
-        width: sheet.wide,
-        height: sheet.wide,
-    };
-    let painted = muosleap::painting::paint_tag_in(plane, frame, sheet.number, sheet.word, print);
-    match painted {
-        Painted::Refused(_) => no_start(tally),
-        Painted::Tag(quad) => four_starts(plane, sheet, quad, tally),
+fn paint_and_read(plane: &mut [u8], codes: &[u64], sheet: Sheet, tally: Tally) -> Tally {
+    match paint(plane, sheet) {
+        Painted::Refused(_) => tally.count(false, sheet.id),
+        Painted::Tag(quad) => four_starts(plane, codes, sheet, quad, tally),
     }
-}
-
-// The pixels of a square plane; 0 for a side above 641.
-pub fn area(wide: usize) -> usize
-    ensures { λ r. ⌜ r ≤ 410881 ⌝ }
-{
-    if 641 < wide {
-        return 0;
-    }
-    wide * wide
 }
 
 // Paints a tag into the first bytes of `plane`, as many as the sheet's plane has, and counts its four starts.
-pub fn four_readings(plane: &mut [u8], sheet: Sheet, print: Print, tally: Tally) -> Tally {
-    let n = area(sheet.wide);
-    if plane.len() < n {
-        return no_start(tally);
-    }
-    paint_and_read(&mut plane[0..n], sheet, print, tally)
+pub fn four_readings(plane: &mut [u8], codes: &[u64], sheet: Sheet, tally: Tally) -> Tally {
+    let n = product(sheet.wide, sheet.wide, plane.len());
+    paint_and_read(&mut plane[0..n], codes, sheet, tally)
 }

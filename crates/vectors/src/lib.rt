@@ -1,13 +1,13 @@
-// What the programs that replay vectors share: reading a file of frames, counting what is alike, the generator of numbers
-// and the digest. tools/oracle/README.md has the formats.
+// What the programs that replay vectors share: files of frames, numbers in bytes, the count of what is alike, the generator of
+// numbers and the digest. tools/oracle/README.md has the formats.
+pub mod answers;
 pub mod floats;
-pub mod plane_frames;
-pub mod quad_frames;
 
 ghost use Prim.Native.Nat.{_<_, _≤_};
 ghost use lib.ListN.{length};
 ghost use Rattle.io.specs.Counts.{Counts};
 use libc::STDOUT_FILENO;
+use refusals::Frame;
 
 // Reads the file into `buffer`, and answers how many bytes it has there.
 pub fn load(path: &[u8], buffer: &mut [u8]) -> usize
@@ -31,17 +31,22 @@ pub fn least(a: usize, b: usize) -> usize
     b
 }
 
-// The number of samples of a plane, at most 4,096.
-pub fn area(width: usize, height: usize) -> usize
-    ensures { λ r. ⌜ r ≤ 4096 ⌝ }
+// a times b, as the samples of a plane, but at most `most`.
+pub fn product(a: usize, b: usize, most: usize) -> usize
+    ensures { λ r. ⌜ r ≤ most ⌝ }
 {
-    if 4096 < width {
-        return 4096;
+    if 65536 < a {
+        return most;
     }
-    if 4096 < height {
-        return 4096;
+    if 65536 < b {
+        return most;
     }
-    least(width * height, 4096)
+    least(a * b, most)
+}
+
+// The sides of an 8-bit plane.
+pub fn frame_of(width: usize, height: usize) -> Frame {
+    Frame { width, height }
 }
 
 // What stands in `s` from `at` on.
@@ -77,68 +82,29 @@ pub fn u64_at(s: &[u8], at: usize) -> u64 {
     (u32_at(t, 4) as u64) * 4294967296 + (u32_at(t, 0) as u64)
 }
 
-// The bytes of `s`, as many as `out` has room for, go to `out`. Answers how many.
-pub fn u8s(s: &[u8], out: &mut [u8]) -> usize {
-    let mut i = 0;
-    while i < out.len() {
-        if s.len() <= i {
-            return i;
-        }
-        out[i] = s[i];
-        i += 1;
-    }
-    i
+// The frame whose two bytes of length stand at `at`, without these. Past the end there is an empty one.
+pub fn frame_at(s: &[u8], at: usize) -> &[u8] {
+    let t = rest(s, at);
+    first(rest(t, 2), u16_at(t, 0) as usize)
 }
 
-// The numbers of eight bytes in `s`, as many as `out` has room for, go to `out`. Answers how many.
-pub fn u64s(s: &[u8], out: &mut [u64]) -> usize {
-    let mut i = 0;
-    while i < out.len() {
-        if s.len() / 8 <= i {
-            return i;
-        }
-        out[i] = u64_at(s, 8 * i);
-        i += 1;
-    }
-    i
-}
-
-// Where a frame's bytes start, and where they end.
-pub struct Span {
-    pub from: usize,
-    pub to: usize,
-}
-
-// The frame whose two bytes of length stand at `at`.
-pub fn frame_at(s: &[u8], at: usize) -> Span
+// Where the frame at `at` ends.
+pub fn after(s: &[u8], at: usize) -> usize
     requires { ⌜ at < length (now s) ⌝ }
-    ensures { λ r. ⌜ (r .from ≤ r .to) × ((at < r .to) × (r .to ≤ length (now (s .entry)))) ⌝ }
+    ensures { λ r. ⌜ (at < r) × (r ≤ length (now (s .entry))) ⌝ }
 {
     let left = s.len() - at;
     if left < 2 {
-        return Span {
-            from: s.len(),
-            to: s.len(),
-        };
+        return s.len();
     }
-    let n = u16_at(s, at) as usize;
-    if left - 2 < n {
-        return Span {
-            from: at + 2,
-            to: s.len(),
-        };
-    }
-    Span {
-        from: at + 2,
-        to: at + 2 + n,
-    }
+    at + 2 + least(u16_at(s, at) as usize, left - 2)
 }
 
-// How many vectors were replayed, how many gave what they say, and where the first that did not stands in its file.
+// How many vectors were replayed, how many gave what they say, and where the last that did not stands in its file.
 pub struct Tally {
     pub seen: u64,
     pub alike: u64,
-    pub first: usize,
+    pub other: usize,
 }
 
 impl Tally {
@@ -146,7 +112,7 @@ impl Tally {
         Tally {
             seen: 0,
             alike: 0,
-            first: 0,
+            other: 0,
         }
     }
 
@@ -156,56 +122,33 @@ impl Tally {
             return Tally {
                 seen,
                 alike: std::num::wrapping_add_u64(self.alike, 1),
-                first: self.first,
-            };
-        }
-        if self.alike == self.seen {
-            return Tally {
-                seen,
-                alike: self.alike,
-                first: at,
+                other: self.other,
             };
         }
         Tally {
             seen,
             alike: self.alike,
-            first: self.first,
+            other: at,
         }
     }
 }
 
-// Prints a line with the counts and, where they differ, the bytes of the first frame that is not alike.
-pub fn report(name: &[u8], s: &[u8], tally: Tally) {
+// Prints a text and a number.
+pub fn say(text: &[u8], number: u64) {
+    io::write_all(STDOUT_FILENO, text);
+    io::print_decimal(STDOUT_FILENO, number);
+}
+
+// Prints a line with the counts and, where they differ, another that says where.
+pub fn report(name: &[u8], tally: Tally) {
     io::write_all(STDOUT_FILENO, name);
-    io::write_all(STDOUT_FILENO, b" ");
-    io::print_decimal(STDOUT_FILENO, tally.alike);
-    io::write_all(STDOUT_FILENO, b" of ");
-    io::print_decimal(STDOUT_FILENO, tally.seen);
+    say(b" ", tally.alike);
+    say(b" of ", tally.seen);
     io::write_all(STDOUT_FILENO, b" alike\n");
-    let first = tally.first;
     if tally.alike != tally.seen {
-        if first < s.len() {
-            io::write_all(STDOUT_FILENO, b"  first difference:");
-            let span = frame_at(s, first);
-            let from = span.from;
-            let to = span.to;
-            print_bytes(&s[from..to]);
-            io::write_all(STDOUT_FILENO, b"\n");
-        }
+        say(b"  the last that differs is at ", tally.other as u64);
+        io::write_all(STDOUT_FILENO, b"\n");
     }
-}
-
-fn print_bytes(bytes: &[u8]) {
-    let mut i = 0;
-    while i < bytes.len() {
-        print_byte(bytes[i]);
-        i += 1;
-    }
-}
-
-fn print_byte(byte: u8) {
-    io::write_all(STDOUT_FILENO, b" ");
-    io::print_hex(STDOUT_FILENO, byte as u64, 2);
 }
 
 // The number after x: xorshift with the shifts 13, 7, 17.
@@ -225,13 +168,14 @@ fn times_prime(x: u64) -> u64 {
     std::num::wrapping_add_u64(std::num::wrapping_add_u64(low, high << 32), x << 40)
 }
 
-pub fn digest_u8(digest: u64, byte: u8) -> u64 {
-    times_prime(digest ^ (byte as u64))
+// The digest with the low byte of a number.
+pub fn digest_u8(digest: u64, number: u64) -> u64 {
+    times_prime(digest ^ (number % 256))
 }
 
 // The low two bytes of a number, low byte first, and so below.
 pub fn digest_u16(digest: u64, number: u64) -> u64 {
-    digest_u8(digest_u8(digest, byte_of(number)), byte_of(number / 256))
+    digest_u8(digest_u8(digest, number), number / 256)
 }
 
 pub fn digest_u32(digest: u64, number: u64) -> u64 {
@@ -240,8 +184,4 @@ pub fn digest_u32(digest: u64, number: u64) -> u64 {
 
 pub fn digest_u64(digest: u64, number: u64) -> u64 {
     digest_u32(digest_u32(digest, number), number / 4294967296)
-}
-
-fn byte_of(number: u64) -> u8 {
-    (number % 256) as u8
 }

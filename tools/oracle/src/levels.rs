@@ -26,7 +26,7 @@ fn push(file: &mut File, levels: &[u8], band: u8, allowed: u32, (refusal, word):
 }
 
 fn rows() -> File {
-    let mut file = File::new("vectors_levels/data/bit_code");
+    let mut file = File::new("vectors_tags/data/bit_code");
     let mut numbers = Numbers::from(SEED + 64);
     let mut original = |levels: &[u8], band: u8, allowed: u32| {
         push(&mut file, levels, band, allowed, read(levels, band, allowed));

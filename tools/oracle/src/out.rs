@@ -61,7 +61,7 @@ pub struct File {
 const MOST: usize = 65_536;
 
 impl File {
-    /// A file of the crates folder, as "vectors_words/data/rotate_bits".
+    /// A file of the crates folder, as "vectors_tags/data/rotate_bits".
     pub fn new(path: &'static str) -> File {
         File { path, bytes: Vec::new(), frames: 0 }
     }

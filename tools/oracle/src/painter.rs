@@ -79,7 +79,7 @@ impl Print {
 
 /// Painted planes of every edge, border and turn, and the limits of document 01.
 fn paintings() -> File {
-    let mut file = File::new("vectors_painter/data/paintings");
+    let mut file = File::new("vectors_tags/data/paintings");
     let mut numbers = Numbers::from(SEED + 14);
     for edge in 1..=8u8 {
         for border in 1..=4u8 {
@@ -105,7 +105,7 @@ fn paintings() -> File {
 /// the oracle painted; elsewhere (even cells) the answer is that of document 01. Both are the same: the tag's own number, turn
 /// (4 - s) modulo 4, the corners in print order.
 fn prints() -> File {
-    let mut file = File::new("vectors_painter/data/prints");
+    let mut file = File::new("vectors_tags/data/prints");
     let mut numbers = Numbers::from(SEED + 3);
     for number in 0..5 {
         for turn in 0..4 {

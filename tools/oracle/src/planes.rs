@@ -44,7 +44,7 @@ pub fn unit(numbers: &mut Numbers) -> f32 {
 }
 
 fn blur() -> File {
-    let mut file = File::new("vectors_planes/data/blur");
+    let mut file = File::new("vectors_picture/data/blur");
     let mut numbers = Numbers::from(SEED + 15);
     for height in [1, 2, 3, 5, 6, 7, 8, 9] {
         for width in [1, 2, 3, 5, 6, 7, 8, 9] {
@@ -96,7 +96,7 @@ pub fn wide(numbers: &mut Numbers) -> f32 {
 }
 
 fn response() -> File {
-    let mut file = File::new("vectors_planes/data/response");
+    let mut file = File::new("vectors_picture/data/response");
     let mut numbers = Numbers::from(SEED + 9);
     for height in [1, 2, 3, 4, 5, 8] {
         for width in [1, 2, 3, 4, 5, 8, 17] {
@@ -124,7 +124,7 @@ pub fn lowest(plane: &Plane) -> f32 {
 }
 
 fn threshold() -> File {
-    let mut file = File::new("vectors_planes/data/threshold");
+    let mut file = File::new("vectors_picture/data/threshold");
     let mut numbers = Numbers::from(SEED + 5);
     let mut push = |plane: Plane| {
         file.push(plane.frame(5).f32(lowest(&plane)).f32s(&plane.samples));
@@ -200,7 +200,7 @@ pub const PICTURES: [&str; 14] = [
 ];
 
 fn clusters_of_planes() -> File {
-    let mut file = File::new("vectors_clusters/data/clusters");
+    let mut file = File::new("vectors_picture/data/clusters");
     let mut numbers = Numbers::from(SEED + 4);
     for picture in PICTURES {
         let plane = drawn(picture);
@@ -243,7 +243,7 @@ fn digest_of_patterns(width: usize, height: usize) -> Frame {
 }
 
 fn center() -> File {
-    let mut file = File::new("vectors_clusters/data/center");
+    let mut file = File::new("vectors_picture/data/center");
     let mut numbers = Numbers::from(SEED + 24);
     let mut push = |cluster: Vec<(u32, u32)>| {
         let sum = |side: fn(&(u32, u32)) -> u32| cluster.iter().map(|point| side(point) as u64).sum::<u64>();
@@ -273,7 +273,7 @@ fn lent(frame: Frame, list: &limits::Lent) -> Frame {
 
 /// The limits of document 01 for blur, response and threshold, each a call of one entry and the number that it answers.
 fn refusals() -> File {
-    let mut file = File::new("vectors_planes/data/refusals");
+    let mut file = File::new("vectors_picture/data/refusals");
     for row in limits::planes().iter().filter(|row| row.entry < 3) {
         let frame = Frame::new().u8(6).u8(row.entry).u64(row.width).u64(row.height).u8(row.refusal);
         file.push(lent(lent(frame, &row.plane), &row.weights).u32(row.temp).u32(row.out));
@@ -283,7 +283,7 @@ fn refusals() -> File {
 
 /// The limits of document 01 for the clusters.
 fn refusals_of_clusters() -> File {
-    let mut file = File::new("vectors_clusters/data/refusals");
+    let mut file = File::new("vectors_picture/data/cluster_refusals");
     for row in limits::planes().iter().filter(|row| row.entry == 3) {
         let frame = Frame::new().u8(4).u64(row.width).u64(row.height).u8(row.refusal);
         file.push(lent(frame, &row.plane).f32(row.threshold).u32(row.worklist));

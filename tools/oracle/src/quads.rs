@@ -18,7 +18,7 @@ pub fn push_quad(frame: Frame, quad: &Quad) -> Frame {
 
 /// One corner away from the others, which are at the picture's first pixel: is it in the picture?
 fn corner_tests() -> File {
-    let mut file = File::new("vectors_quads/data/corners");
+    let mut file = File::new("vectors_tags/data/corners");
     let mut numbers = Numbers::from(SEED + 12);
     let mut push = |width: usize, height: usize, quad: Quad| {
         let outside = corners_inside(width as u32, height as u32, &quad).is_none();
@@ -188,7 +188,7 @@ pub fn quads_of(picture: &Picture, quad: &Quad, numbers: &mut Numbers) -> Vec<Qu
 }
 
 fn readings() -> File {
-    let mut file = File::new("vectors_quads/data/readings");
+    let mut file = File::new("vectors_tags/data/readings");
     let mut numbers = Numbers::from(SEED + 41);
     for (number, dark, light) in [(0, 30, 220), (1, 0, 255), (2, 100, 150), (3, 101, 150), (3, 20, 240), (4, 90, 170)] {
         let mut picture = Picture::new(number, 36, 34, |_| light);
@@ -242,7 +242,7 @@ fn dented(file: &mut File, numbers: &mut Numbers) {
 
 /// The limits of document 01 for the quad reader.
 fn refusals() -> File {
-    let mut file = File::new("vectors_quads/data/refusals");
+    let mut file = File::new("vectors_tags/data/refusals");
     for row in limits::quads() {
         let frame = Frame::new().u8(4).u64(row.width).u64(row.height).u16(row.length);
         let frame = frame.u8(row.edge).u8(row.border).u8(row.threshold).u64(row.code).u16(row.count).u8(row.refusal);

@@ -8,11 +8,11 @@ use crate::out::{Digest, File, Frame, Numbers, SEED};
 pub fn files() -> Vec<File> {
     vec![
         rotate_bits(),
-        family("vectors_words/data/t16h5", 0, TagFamily::T16H5, SEED + 165, 1),
-        family("vectors_words/data/t25h7", 1, TagFamily::T25H7, SEED + 257, 3),
-        family("vectors_words/data/t25h9", 2, TagFamily::T25H9, SEED + 259, 1),
-        family("vectors_words/data/t36h11", 3, TagFamily::T36H11, SEED + 3611, 3),
-        family("vectors_words/data/t36h11b1", 4, TagFamily::T36H11B1, SEED + 36111, 30),
+        family("vectors_tags/data/t16h5", 0, TagFamily::T16H5, SEED + 165, 1),
+        family("vectors_tags/data/t25h7", 1, TagFamily::T25H7, SEED + 257, 3),
+        family("vectors_tags/data/t25h9", 2, TagFamily::T25H9, SEED + 259, 1),
+        family("vectors_tags/data/t36h11", 3, TagFamily::T36H11, SEED + 3611, 3),
+        family("vectors_tags/data/t36h11b1", 4, TagFamily::T36H11B1, SEED + 36111, 30),
         lent(),
         searches_of_limits(),
         likeness_of_limits(),
@@ -25,7 +25,7 @@ pub fn square(edge: u8) -> u64 {
 }
 
 fn rotate_bits() -> File {
-    let mut file = File::new("vectors_words/data/rotate_bits");
+    let mut file = File::new("vectors_tags/data/rotate_bits");
     let mut numbers = Numbers::from(SEED + 8);
     let mut push = |edge: u8, bits: u64, refusal: u8, word: u64| {
         file.push(Frame::new().u8(3).u8(edge).u64(bits).u8(refusal).u64(word));
@@ -200,7 +200,7 @@ fn likeness(threshold: u8, border: u8, refusal: u8) -> Frame {
 
 /// The limits of document 01 for the likeness check.
 fn likeness_of_limits() -> File {
-    let mut file = File::new("vectors_words/data/likeness");
+    let mut file = File::new("vectors_tags/data/likeness");
     for row in limits::likeness() {
         let known = row.refusal == 6 || is_unlike(row.edge, row.threshold, &row.codes) == (row.refusal == 0);
         assert!(known, "limits.txt and the check differ");
@@ -212,7 +212,7 @@ fn likeness_of_limits() -> File {
 
 /// Lent tables: ties, one code and 1,024, every edge and thresholds to 64.
 fn lent() -> File {
-    let mut file = File::new("vectors_words/data/lent");
+    let mut file = File::new("vectors_tags/data/lent");
     let mut numbers = Numbers::from(SEED + 1_024);
     ties(&mut file);
     for edge in 1..=8 {
@@ -228,7 +228,7 @@ fn lent() -> File {
 
 /// The limits of document 01 for the search.
 fn searches_of_limits() -> File {
-    let mut file = File::new("vectors_words/data/limits");
+    let mut file = File::new("vectors_tags/data/limits");
     for row in limits::searches() {
         let mut table = Table::lend(&mut file, row.edge, row.threshold, row.codes);
         let (refusal, id, turn) = match row.answer {

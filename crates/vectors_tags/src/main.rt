@@ -1,0 +1,74 @@
+// Replays what the original's turn, search, levels, corner test and quad reader answered, its families, paintings, and the limits of
+// document 01, against the public entries on tags. tools/oracle/README.md says how the files were made.
+mod bit_codes;
+mod paintings;
+mod quads;
+mod words;
+
+use vectors::Tally;
+use vectors::u8_at;
+
+// Files of frames on words, levels, quads and paintings.
+const WORDS: u8 = 0;
+
+const LEVELS: u8 = 1;
+
+const QUADS: u8 = 2;
+
+const PAINTER: u8 = 3;
+
+// Whether the entry answers what a frame says. The frame's first byte is its kind.
+fn alike(flow: u8, frame: &[u8], lent: &[u8]) -> bool {
+    let kind = u8_at(frame, 0);
+    match flow {
+        WORDS => words::alike(kind, frame, lent),
+        LEVELS => bit_codes::alike(kind, frame),
+        QUADS => quads::alike(kind, frame, lent),
+        _ => paintings::alike(kind, frame),
+    }
+}
+
+// A frame of kind 0 lends a table or a picture to those after it.
+fn replay(flow: u8, s: &[u8]) -> Tally {
+    let mut tally = Tally::new();
+    let mut lent = s.len();
+    let mut at = 0;
+    while at < s.len() {
+        let frame = vectors::frame_at(s, at);
+        if u8_at(frame, 0) == 0 {
+            lent = at;
+        } else {
+            tally = tally.count(alike(flow, frame, vectors::frame_at(s, lent)), at);
+        }
+        at = vectors::after(s, at);
+    }
+    tally
+}
+
+fn replay_file(flow: u8, name: &[u8]) {
+    let mut buffer = io::large_buffer();
+    let n = vectors::load(name, &mut buffer);
+    vectors::report(name, replay(flow, &buffer[..n]));
+}
+
+fn replay_words() {
+    replay_file(WORDS, b"rotate_bits");
+    replay_file(WORDS, b"t16h5");
+    replay_file(WORDS, b"t25h7");
+    replay_file(WORDS, b"t25h9");
+    replay_file(WORDS, b"t36h11");
+    replay_file(WORDS, b"t36h11b1");
+    replay_file(WORDS, b"lent");
+    replay_file(WORDS, b"limits");
+    replay_file(WORDS, b"likeness");
+}
+
+fn main() {
+    replay_words();
+    replay_file(LEVELS, b"bit_code");
+    replay_file(QUADS, b"corners");
+    replay_file(QUADS, b"readings");
+    replay_file(QUADS, b"refusals");
+    replay_file(PAINTER, b"paintings");
+    replay_file(PAINTER, b"prints");
+}

@@ -1,0 +1,193 @@
+// Frames of one quad, of a list of quads, and of the corner test. The picture is the frame that was lent.
+use muosleap::detector::try_decode_quad;
+use muosleap::detector::try_decode_quad_in;
+use muosleap::quads::Listed;
+use muosleap::quads::try_decode_quads;
+use muosleap::quads::try_decode_quads_in;
+use points::Quad;
+use refusals::Frame;
+use tables::Family;
+use vectors::answers;
+use vectors::answers::Answer;
+use vectors::answers::answer_at;
+use vectors::answers::answer_of;
+use vectors::answers::quad_at;
+use vectors::floats;
+use vectors::frame_of;
+use vectors::least;
+use vectors::product;
+use vectors::rest;
+use vectors::u8_at;
+use vectors::u16_at;
+use vectors::u64_at;
+ghost use mathlib.Core.Path.{_≡_};
+ghost use Prim.Native.Nat.{_<_, _≤_};
+ghost use lib.ListN.{length};
+
+// Whether a quad is read, in a family by its number, as the 36 bytes `s` say.
+pub fn reading_alike(plane: &[u8], frame: Frame, number: u8, quad: Quad, s: &[u8]) -> bool {
+    answers::same(
+        answer_of(try_decode_quad_in(plane, frame, number, quad)),
+        answer_at(s),
+    )
+}
+
+fn picture(lent: &[u8]) -> Frame {
+    frame_of(u16_at(lent, 1) as usize, u16_at(lent, 3) as usize)
+}
+
+fn quad_alike(frame: &[u8], lent: &[u8]) -> bool {
+    reading_alike(
+        rest(lent, 5),
+        picture(lent),
+        u8_at(frame, 1),
+        quad_at(rest(frame, 2)),
+        rest(frame, 34),
+    )
+}
+
+// What row number q is to be after a list of `n` quads, with 36 bytes for each. What is past them is 7 as before the call.
+fn expected(s: &[u8], q: usize, n: usize) -> Answer {
+    if q < n {
+        return answer_at(rest(rest(s, q << 5), q << 2));
+    }
+    Answer {
+        refusal: 7,
+        id: 7,
+        turn: 7,
+        corners: answers::quad_of(7.0),
+    }
+}
+
+fn rows_alike(s: &[u8], n: usize, rows: &[u64], corners: &[f32]) -> bool {
+    let mut alike = true;
+    let mut q = 0;
+    while q < rows.len() / 3 {
+        alike = alike & answers::same(answers::row_at(rows, corners, q), expected(s, q, n));
+        q += 1;
+    }
+    alike
+}
+
+// The outputs that are lent to the reader are two numbers longer than they need to be.
+fn listed_alike(
+    frame: &[u8],
+    lent: &[u8],
+    n: usize,
+    quads: &[f32],
+    rows: &mut [u64],
+    corners: &mut [f32],
+) -> bool
+    requires { ⌜ (n < 32) × ((length (now rows) ≡ 96) × (length (now corners) ≡ 256)) ⌝ }
+{
+    let listed = try_decode_quads_in(
+        rest(lent, 5),
+        picture(lent),
+        u8_at(frame, 1),
+        quads,
+        &mut rows[0..3 * n + 2],
+        &mut corners[0..8 * n + 2],
+    );
+    (number_of(listed) == 0) & rows_alike(rest(frame, 3 + 32 * n), n, rows, corners)
+}
+
+fn list_alike(frame: &[u8], lent: &[u8]) -> bool {
+    let mut quads = [0.0f32; 248];
+    let mut rows = [7u64; 96];
+    let mut corners = [7.0f32; 256];
+    let n = least(u8_at(frame, 2) as usize, 31);
+    floats::fill(floats::EACH, 0, rest(frame, 3), &mut quads);
+    listed_alike(frame, lent, n, &quads[0..8 * n], &mut rows, &mut corners)
+}
+
+// The number of a list's answer, 0 where it is accepted.
+fn number_of(listed: Listed) -> u8 {
+    match listed {
+        Listed::Done(_) => 0,
+        Listed::Refused(number) => number,
+    }
+}
+
+// The corner test alone: 9 where a corner is outside, and something else where not.
+fn corners_alike(frame: &[u8]) -> bool {
+    let pixels = [0u8; 4096];
+    let width = u16_at(frame, 1) as usize;
+    let height = u16_at(frame, 3) as usize;
+    let n = product(width, height, 4096);
+    let answer = answer_of(try_decode_quad_in(
+        &pixels[0..n],
+        frame_of(width, height),
+        0,
+        quad_at(rest(frame, 6)),
+    ));
+    (answer.refusal == 9) ^ (u8_at(frame, 5) == 0)
+}
+
+// A length that a frame gives, at most `most`.
+fn length_at(frame: &[u8], at: usize, most: usize) -> usize
+    ensures { λ r. ⌜ r ≤ most ⌝ }
+{
+    least(u16_at(frame, at) as usize, most)
+}
+
+fn family_at(s: &[u8]) -> Family {
+    Family {
+        edge: u8_at(s, 0),
+        border: u8_at(s, 1),
+        hamming_distance: u8_at(s, 2),
+    }
+}
+
+// Which number a call answers for one quad of a plane of equal bytes, with a table of equal codes.
+fn number_alike(frame: &[u8]) -> bool {
+    let pixels = [9u8; 4100];
+    let codes = [u64_at(frame, 22); 1025];
+    let n = length_at(frame, 17, 4100);
+    let count = length_at(frame, 30, 1025);
+    let answer = answer_of(try_decode_quad(
+        &pixels[0..n],
+        frame_of(u64_at(frame, 1) as usize, u64_at(frame, 9) as usize),
+        family_at(rest(frame, 19)),
+        &codes[0..count],
+        quad_at(rest(frame, 33)),
+    ));
+    answer.refusal == u8_at(frame, 32) as u64
+}
+
+// The same for a list of quads that are one point of a plane of 4 x 4.
+fn list_number_alike(frame: &[u8]) -> bool {
+    let pixels = [9u8; 16];
+    let quads = [1.0f32; 8200];
+    let mut rows = [0u64; 3076];
+    let mut corners = [0.0f32; 8201];
+    let n = length_at(frame, 2, 16);
+    let a = length_at(frame, 5, 8200);
+    let b = length_at(frame, 7, 3076);
+    let c = length_at(frame, 9, 8201);
+    let family = Family {
+        edge: u8_at(frame, 4),
+        border: 2,
+        hamming_distance: 1,
+    };
+    let listed = try_decode_quads(
+        &pixels[0..n],
+        frame_of(4, 4),
+        family,
+        &[0],
+        &quads[0..a],
+        &mut rows[0..b],
+        &mut corners[0..c],
+    );
+    number_of(listed) == u8_at(frame, 1)
+}
+
+pub fn alike(kind: u8, frame: &[u8], lent: &[u8]) -> bool {
+    match kind {
+        1 => quad_alike(frame, lent),
+        2 => list_alike(frame, lent),
+        3 => corners_alike(frame),
+        4 => number_alike(frame),
+        5 => list_number_alike(frame),
+        _ => false,
+    }
+}
