@@ -11,7 +11,7 @@ use lib.Dec.{eqb}
 use borrow.Author.Tests.{eqb-true, eq-eqb, not-true}
 use Rattle.lists.specs.Sum.{sum}
 use Rattle.lists.proofs.Bools.{and-parts, or-cases, test, same?}
-use Rattle.lists.proofs.Sum.{sum-le}
+use Rattle.lists.proofs.Sum.{sum-le, sum-most}
 use Rattle.clusters.specs.Connected.{beside, reach}
 use Rattle.clusters.specs.Clusters.{any}
 use Rattle.clusters.proofs.Any.{any-found, any-from}
@@ -59,9 +59,7 @@ one-le true b f = rw (f refl) (le-refl 1)
 one-le false b f = omega arith
 
 size-all : (m : ℕ → Bool) (n : ℕ) → size m n ≤ n
-unfolding sum
-size-all m zero = le-refl 0
-size-all m (suc n) = omega (arith, size-all m n, one-le (m n) true (λ _. refl))
+size-all m n = omega (arith, sum-most n 1 (λ i. one (m i)) (λ i l. one-le (m i) true (λ _. refl)))
 
 module _ (m m′ : ℕ → Bool) (more : (i : ℕ) → m i ≡ true → m′ i ≡ true) (p : ℕ) (out : m p ≡ false) (into : m′ p ≡ true) where
   pub size-grows : (n : ℕ) → p < n → size m n < size m′ n

@@ -1,34 +1,15 @@
--- Members of lists of places and of sets, and sums over both. Assumes nothing.
-use mathlib.Core.Path.{_≡_, refl, ap}
-use mathlib.Core.Logic.{_⊎_, inl, inr, ⊎-elim}
+-- Sums over lists of places and over sets. Assumes nothing.
+use mathlib.Core.Path.{_≡_, refl, ap, _∙_}
+use mathlib.Core.Logic.{⊎-elim}
 use mathlib.Core.Bool.{Bool, true, false, cond}
 use mathlib.Core.List.{List, [], _∷_, _++_}
 use Prim.Native.Nat.{ℕ, zero, suc, _+_, _*_, _≤_, _<_}
-use native.Mathlib.Nat.{not-suc-le-zero, suc-mul}
+use native.Mathlib.Nat.{not-suc-le-zero}
 use native.Mathlib.Omega.{arith}
 use lib.ListN.{length}
 use Rattle.lists.specs.Sum.{sum}
 use Rattle.lists.proofs.Bools.{same?}
-
--- ---- lists
-
-abbrev pub In : ℕ → List ℕ → Type 0
-In j [] = ⊥
-In j (x ∷ l) = (j ≡ x) ⊎ In j l
-
-pub in-append : (j : ℕ) (a b : List ℕ) → In j (a ++ b) → In j a ⊎ In j b
-in-append j [] b h = inr h
-in-append j (x ∷ a) b (inl e) = inl (inl e)
-in-append j (x ∷ a) b (inr h) = ⊎-elim (λ k. inl (inr k)) (λ k. inr k) (in-append j a b h)
-
-pub in-left : (j : ℕ) (a b : List ℕ) → In j a → In j (a ++ b)
-in-left j [] b h = absurd h
-in-left j (x ∷ a) b (inl e) = inl e
-in-left j (x ∷ a) b (inr h) = inr (in-left j a b h)
-
-pub in-right : (j : ℕ) (a b : List ℕ) → In j b → In j (a ++ b)
-in-right j [] b h = h
-in-right j (x ∷ a) b h = inr (in-right j a b h)
+use Rattle.lists.proofs.Sum.{sum-ext, sum-most, sum-none}
 
 -- the sum of f over the places of a list
 unfoldable pub listSum : (ℕ → ℕ) → List ℕ → ℕ
@@ -45,17 +26,13 @@ unfolding listSum
 list-sum-ones [] = refl
 list-sum-ones (x ∷ l) = omega (arith, list-sum-ones l)
 
--- ---- sets
-
 -- the sum of f over the members of a set that are below n
 abbrev pub setSum : (ℕ → Bool) → (ℕ → ℕ) → ℕ → ℕ
 setSum m f n = sum n (λ i. cond (m i) (f i) 0)
 
 -- an empty set has no sum
 pub set-sum-none : (m : ℕ → Bool) (f : ℕ → ℕ) (n : ℕ) → ((i : ℕ) → m i ≡ false) → setSum m f n ≡ 0
-unfolding sum
-set-sum-none m f zero h = refl
-set-sum-none m f (suc n) h = simp (h n, set-sum-none m f n h)
+set-sum-none m f n h = sum-ext n (λ i. cond (m i) (f i) 0) (λ i. 0) (λ i l. ap (λ (t : Bool). cond t (f i) 0) (h i)) ∙ sum-none n
 
 -- two sets with the same members have the same sum
 pub set-sum-same : (m m′ : ℕ → Bool) (f : ℕ → ℕ) (n : ℕ) → ((i : ℕ) → m i ≡ m′ i) → setSum m f n ≡ setSum m′ f n
@@ -63,10 +40,7 @@ set-sum-same m m′ f n h = ap (λ (k : ℕ → Bool). setSum k f n) (λ j i. h 
 
 -- where f is at most b, the sum is at most b for each place below n
 pub set-sum-le : (m : ℕ → Bool) (f : ℕ → ℕ) (b n : ℕ) → ((i : ℕ) → i < n → f i ≤ b) → setSum m f n ≤ n * b
-unfolding sum
-set-sum-le m f b zero h = omega arith
-set-sum-le m f b (suc n) h =
-    omega (arith, suc-mul n b, set-sum-le m f b n (λ i l. h i (omega arith)), part-le (m n) (f n) (h n (omega arith)))
+set-sum-le m f b n h = sum-most n b (λ i. cond (m i) (f i) 0) (λ i l. part-le (m i) (f i) (h i l))
   where
     part-le : (t : Bool) (x : ℕ) → x ≤ b → cond t x 0 ≤ b
     part-le true x h = h
@@ -74,12 +48,7 @@ set-sum-le m f b (suc n) h =
 
 module _ (m m′ : ℕ → Bool) (f : ℕ → ℕ) (p : ℕ) (out : m p ≡ false) (into : m′ p ≡ true) (others : (i : ℕ) → (i ≡ p → ⊥) → m′ i ≡ m i) where
   same-before : (n : ℕ) → n ≤ p → setSum m′ f n ≡ setSum m f n
-  unfolding sum
-  same-before zero h = refl
-  same-before (suc n) h =
-      let e : m′ n ≡ m n = others n (λ q. omega arith) in
-      let t : setSum m′ f n ≡ setSum m f n = same-before n (omega arith) in
-      cc
+  same-before n h = sum-ext n (λ i. cond (m′ i) (f i) 0) (λ i. cond (m i) (f i) 0) (λ i l. ap (λ (t : Bool). cond t (f i) 0) (others i (λ q. omega arith)))
 
   others-more : (n : ℕ) → (n ≡ p → ⊥) → setSum m′ f n ≡ setSum m f n + f p → setSum m′ f (suc n) ≡ setSum m f (suc n) + f p
   unfolding sum

@@ -4,7 +4,7 @@ use mathlib.Core.Path.{_≡_, refl, sym, ap, _∙_, subst}
 use mathlib.Core.Logic.{_⊎_, inl, inr, ⊎-elim}
 use mathlib.Core.Bool.{Bool, true, false, not, _&&_, cond, false≢true}
 use mathlib.Mathlib.Data.Bool.Basic.{and-intro}
-use mathlib.Core.List.{List, [], _∷_, _++_}
+use mathlib.Core.List.{List, [], _∷_, _++_, List·Memᴰ, List·Memᴰ·head, List·Memᴰ·not-nil, List·Memᴰ·append-cases, List·Memᴰ·eq-of-singleton, Memᴰ·append-left, Memᴰ·append-right}
 use Prim.Native.Nat.{ℕ, _+_, _-_, _*_, _/_, _%_, _≤_, _<_}
 use native.Mathlib.Nat.{mod-lt, div-le-self, mul-one}
 use native.Mathlib.Omega.{arith}
@@ -16,7 +16,7 @@ use Rattle.lists.proofs.Tab.{length-tabulate, getD-tabulate}
 use Rattle.clusters.specs.Connected.{below, connected}
 use Rattle.clusters.specs.Clusters.{maxF32, rowOf}
 use Rattle.clusters.specs.Walk.{Walk, walk, claimed, leftOf, rightOf, aboveOf, underOf, claimedAround, erased}
-use Rattle.clusters.proofs.Members.{In, in-append, in-left, in-right, listSum, list-sum-more, list-sum-ones, setSum, set-sum-none, set-sum-same, set-sum-le, set-sum-more}
+use Rattle.clusters.proofs.Members.{listSum, list-sum-more, list-sum-ones, setSum, set-sum-none, set-sum-same, set-sum-le, set-sum-more}
 use Rattle.clusters.proofs.Neighbours.{Beside}
 use Rattle.clusters.proofs.Stack.{pushed, popped}
 use Rattle.clusters.proofs.Around.{Near, near-left, near-right, near-above, near-under, one-of-four}
@@ -94,9 +94,9 @@ module _ (t : Float) (w : ℕ) (plane₀ : List Float) (s : ℕ) where
     pub long : length (v .plane) ≡ N
     pub values : (i : ℕ) → getD (v .plane) i nan ≡ cond (marked v i) maxF32 (getD plane₀ i nan)
     pub joined : (i : ℕ) → marked v i ≡ true → Joined w (below t plane₀) s i
-    pub waits : (i : ℕ) → In i (v .waiting) → marked v i ≡ true
-    pub holds : (i : ℕ) → In i held → marked v i ≡ true
-    pub closed : (i : ℕ) → marked v i ≡ true → In i held ⊎ (In i (v .waiting) ⊎ Closed v i)
+    pub waits : (i : ℕ) → List·Memᴰ i (v .waiting) → marked v i ≡ true
+    pub holds : (i : ℕ) → List·Memᴰ i held → marked v i ≡ true
+    pub closed : (i : ℕ) → marked v i ≡ true → List·Memᴰ i held ⊎ (List·Memᴰ i (v .waiting) ⊎ Closed v i)
     pub sum-x : Sum v (λ i. i % w) x
     pub sum-y : Sum v (λ i. i / w) y
     pub counted : Sum v (λ _. 1) count
@@ -125,8 +125,8 @@ module _ (t : Float) (w : ℕ) (plane₀ : List Float) (s : ℕ) where
     long = refl;
     values = λ i. sym (ap (λ (b : Bool). cond b maxF32 (getD plane₀ i nan)) (none-marked i));
     joined = λ i m. absurd (false≢true (sym (none-marked i) ∙ m));
-    waits = λ i h. absurd h;
-    holds = λ i h. absurd h;
+    waits = λ i h. absurd (List·Memᴰ·not-nil h);
+    holds = λ i h. absurd (List·Memᴰ·not-nil h);
     closed = λ i m. absurd (false≢true (sym (none-marked i) ∙ m));
     sum-x = no-sum (λ i. i % w);
     sum-y = no-sum (λ i. i / w);
@@ -171,13 +171,13 @@ module _ (t : Float) (w : ℕ) (plane₀ : List Float) (s : ℕ) where
         long = length-set (v .plane) q maxF32 ∙ S .long;
         values = values′;
         joined = λ i m. ⊎-elim (λ e. subst (Joined w (below t plane₀) s) (sym e) j) (λ k. S .joined i k) (was i m);
-        waits = λ i h. ⊎-elim (λ k. stays i (S .waits i k)) (⊎-elim (λ e. rw e mark) (λ e. absurd e)) (in-append i (v .waiting) (q ∷ []) h);
+        waits = λ i h. ⊎-elim (λ k. stays i (S .waits i k)) (λ k. let e = List·Memᴰ·eq-of-singleton k in rw e mark) (List·Memᴰ·append-cases (v .waiting) h);
         holds = λ i h. stays i (S .holds i h);
         closed = λ i m. ⊎-elim
-            (λ e. inr (inl (in-right i (v .waiting) (q ∷ []) (inl e))))
+            (λ e. inr (inl (Memᴰ·append-right (v .waiting) (List·Memᴰ·head e))))
             (λ k. ⊎-elim
             (λ h. inl h)
-            (⊎-elim (λ h. inr (inl (in-left i (v .waiting) (q ∷ []) h))) (λ c. inr (inr (λ l b o. stays l (c l b o)))))
+            (⊎-elim (λ h. inr (inl (Memᴰ·append-left (q ∷ []) h))) (λ c. inr (inr (λ l b o. stays l (c l b o)))))
             (S .closed i k))
             (was i m);
         sum-x = sums (λ i. i % w) x (S .sum-x);
@@ -205,7 +205,7 @@ module _ (t : Float) (w : ℕ) (plane₀ : List Float) (s : ℕ) where
     up-to-p = record { plane = plane; waiting = rest }
 
     top-marked : marked up-to-p p ≡ true
-    top-marked = S .waits p (in-right p rest (p ∷ []) (inl refl))
+    top-marked = S .waits p (Memᴰ·append-right rest (List·Memᴰ·head refl))
 
     top-inside : p < N
     top-inside = below-inside t plane₀ p (and-parts _ _ top-marked .0)
@@ -218,11 +218,11 @@ module _ (t : Float) (w : ℕ) (plane₀ : List Float) (s : ℕ) where
       long = S .long;
       values = S .values;
       joined = S .joined;
-      waits = λ i h. S .waits i (in-left i rest (p ∷ []) h);
-      holds = λ i h. ⊎-elim (λ e. rw e top-marked) (λ e. absurd e) h;
+      waits = λ i h. S .waits i (Memᴰ·append-left (p ∷ []) h);
+      holds = λ i h. let e = List·Memᴰ·eq-of-singleton h in rw e top-marked;
       closed = λ i m. ⊎-elim
-          (λ e. absurd e)
-          (⊎-elim (λ h. ⊎-elim (λ k. inr (inl k)) (λ k. inl k) (in-append i rest (p ∷ []) h)) (λ c. inr (inr c)))
+          (λ e. absurd (List·Memᴰ·not-nil e))
+          (⊎-elim (λ h. ⊎-elim (λ k. inr (inl k)) (λ k. inl k) (List·Memᴰ·append-cases rest h)) (λ c. inr (inr c)))
           (S .closed i m);
       sum-x = moved (λ i. i % w) x (S .sum-x);
       sum-y = moved (λ i. i / w) y (S .sum-y);
@@ -232,8 +232,8 @@ module _ (t : Float) (w : ℕ) (plane₀ : List Float) (s : ℕ) where
   module _ (big : lt maxF32 t ≡ false) (v : Walk) (p x y count : ℕ) (S : State (p ∷ []) v x y count) where
     state-near : (q : ℕ) → Near w p q → State (p ∷ []) (claimed t q v) x y count
     state-near q near = state-claim big (p ∷ []) v x y count q S (λ low. ⊎-elim
-        (λ b. step (S .joined p (S .holds p (inl refl))) b (was-low v q (S .values q) low))
-        (λ e. absurd (false≢true (sym (not-marked v q low) ∙ rw e (S .holds p (inl refl)))))
+        (λ b. step (S .joined p (S .holds p (List·Memᴰ·head refl))) b (was-low v q (S .values q) low))
+        (λ e. absurd (false≢true (sym (not-marked v q low) ∙ rw e (S .holds p (List·Memᴰ·head refl)))))
         near)
 
     state-close : ((i : ℕ) → i < N → Beside w p i → below t (v .plane) i ≡ false) → State [] v x y count
@@ -242,9 +242,9 @@ module _ (t : Float) (w : ℕ) (plane₀ : List Float) (s : ℕ) where
       values = S .values;
       joined = S .joined;
       waits = S .waits;
-      holds = λ i h. absurd h;
+      holds = λ i h. absurd (List·Memᴰ·not-nil h);
       closed = λ i m. ⊎-elim
-          (⊎-elim (λ e. inr (inr (λ l b o. and-intro o (ap not (high l (below-inside t plane₀ l o) (rw e at b)))))) (λ e. absurd e))
+          (λ h. let e = List·Memᴰ·eq-of-singleton h in inr (inr (λ l b o. and-intro o (ap not (high l (below-inside t plane₀ l o) (rw e at b))))))
           (λ k. inr k)
           (S .closed i m);
       sum-x = S .sum-x;
@@ -331,7 +331,7 @@ module _ (t : Float) (w : ℕ) (plane₀ : List Float) (s : ℕ) where
     module _ (S : State [] end x y count) (claimed-seed : below t plane s ≡ false) where
       all-marked : {i : ℕ} → Joined w (below t plane₀) s i → marked end i ≡ true
       all-marked (here e) = and-intro e (ap not claimed-seed)
-      all-marked (step {p} {i} j b e) = ⊎-elim (λ k. absurd k) (⊎-elim (λ k. absurd k) (λ c. c i b e)) (S .closed p (all-marked j))
+      all-marked (step {p} {i} j b e) = ⊎-elim (λ k. absurd (List·Memᴰ·not-nil k)) (⊎-elim (λ k. absurd (List·Memᴰ·not-nil k)) (λ c. c i b e)) (S .closed p (all-marked j))
 
       found : (i : ℕ) → marked end i ≡ connected t w plane₀ s i
       found i = same-test (marked end i) (connected t w plane₀ s i)

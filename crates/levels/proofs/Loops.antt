@@ -3,7 +3,7 @@ use mathlib.Core.Path.{_≡_, refl, sym, ap, ap₂, _∙_, subst}
 use mathlib.Core.Bool.{Bool, true, false}
 use mathlib.Core.List.{List, [], _∷_, foldl}
 use Prim.Native.Nat.{ℕ, zero, suc, _+_, _-_, _*_, _^_, _≤_, _<_}
-use native.Mathlib.Nat.{pow-suc, mul-assoc, add-comm, not-suc-le-zero}
+use native.Mathlib.Nat.{pow-suc, mul-assoc, add-comm, not-suc-le-zero, le-of-suc-le-suc}
 use native.Mathlib.Numerals.{add-one}
 use native.Mathlib.Omega.{arith}
 use lib.Dec.{ltb}
@@ -11,6 +11,7 @@ use lib.ListN.{length, getD, drop, drop-of-length-le}
 use lib.Pow.{pow-mono}
 use lib.Seq.{drop-cons}
 use Rattle.lists.specs.Sum.{sum}
+use Rattle.lists.proofs.Sum.{sum-most}
 use Rattle.word.specs.Word.{word}
 use Rattle.levels.specs.Levels.{overAll, oneIf, above, distance, unsure}
 use Rattle.word.proofs.Bits.{word-lt, word-ext}
@@ -45,9 +46,7 @@ module _ (middle band : ℕ) (levels : List ℕ) where
   firstUnsure i = sum i (λ k. unsure middle band (getD levels k 0))
 
   pub unsure-le : (i : ℕ) → firstUnsure i ≤ i
-  unfolding sum
-  unsure-le zero = omega arith
-  unsure-le (suc i) = omega (arith, unsure-le i, unsure-lt middle band (getD levels i 0))
+  unsure-le i = omega (arith, sum-most i 1 (λ k. unsure middle band (getD levels k 0)) (λ k l. le-of-suc-le-suc (unsure-lt middle band (getD levels k 0))))
 
   pub unsure-more : (i n r : ℕ) → r ≡ unsure middle band (getD levels i 0) → n ≡ firstUnsure i → n + r ≡ firstUnsure (i + 1)
   unfolding sum

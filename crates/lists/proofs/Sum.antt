@@ -15,6 +15,12 @@ unfolding sum
 sum-le zero f g h = le-refl 0
 sum-le (suc n) f g h = add-le-add (h n) (sum-le n f g h)
 
+-- where f is at most b, the sum is at most b for each place below n
+pub sum-most : (n b : ℕ) (f : ℕ → ℕ) → ((k : ℕ) → k < n → f k ≤ b) → sum n f ≤ n * b
+unfolding sum
+sum-most zero b f h = omega arith
+sum-most (suc n) b f h = omega (arith, suc-mul n b, h n (omega arith), sum-most n b f (λ k l. h k (omega arith)))
+
 pub sum-plus : (n : ℕ) (f g : ℕ → ℕ) → sum n (λ k. f k + g k) ≡ sum n f + sum n g
 unfolding sum
 sum-plus zero f g = refl

@@ -1,9 +1,9 @@
 -- The painter's quad passes 8, 9 and 10, and its samples are the modules of the print, each in the middle of its cell. Assumes nothing.
 use mathlib.Core.Path.{_≡_, refl, sym, ap, ap₂, _∙_, subst}
-use mathlib.Core.Bool.{Bool, true, false, _&&_, _||_, cond}
+use mathlib.Core.Bool.{Bool, true, false, _&&_, cond}
 use mathlib.Core.List.{List}
 use Prim.Native.Nat.{ℕ, zero, suc, _+_, _-_, _*_, _/_, _%_, _≤_, _<_}
-use native.Mathlib.Nat.{mod-lt, div-lt-iff-lt-mul, div-add-mod', mul-comm}
+use native.Mathlib.Nat.{div-add-mod', mul-comm}
 use native.Mathlib.Omega.{arith}
 use borrow.Author.Tests.{lt-leb, lt-ltb, eqb-true, eqb-false}
 use lib.Arith.{digits-lt, digits-div, digits-mod}
@@ -12,6 +12,7 @@ use lib.Ieee.{Float}
 use lib.ListN.{length, getD}
 use Rattle.lists.specs.Each.{each}
 use Rattle.lists.proofs.Bools.{or-neither}
+use Rattle.lists.proofs.Grid.{square-row, square-column}
 use Rattle.lists.proofs.Each.{each-of}
 use Rattle.refusals.specs.Pixels.{levelAt}
 use Rattle.refusals.specs.declared.Frame.{Frame}
@@ -116,12 +117,8 @@ row-start family q (suc t) k h = row-turned family (turnedLeft t q) k h ∙ row-
 abbrev cell-of : ℕ → ℕ → Cell
 cell-of e k = cellAt (k / e) (k % e)
 
-positive : (e k : ℕ) → k < e * e → 0 < e
-positive zero k h = absurd (omega arith)
-positive (suc e) k h = omega arith
-
 cell-in : (e k : ℕ) → k < e * e → CellIn e (cell-of e k)
-cell-in e k h = record { rows = div-lt-iff-lt-mul (positive e k h) .1 h; columns = mod-lt k (positive e k h) }
+cell-in e k h = record { rows = square-row e k h; columns = square-column e k h }
 
 -- the turned print shows its own module k there
 cell-back : (e t k : ℕ) → k < e * e → turnedCell e t (cell-of e (sources e t k)) ≡ cell-of e k

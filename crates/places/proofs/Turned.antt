@@ -1,11 +1,10 @@
 -- A quad that starts one corner later: its places are the first quad's, turned once. Module (i, j) of it lies where module
 -- (j, side − 1 − i) of the first lies, since S stays, A becomes −B and B becomes A. Assumes nothing.
 use mathlib.Core.Path.{_≡_, sym, ap, ap₂, _∙_}
-use Prim.Native.Nat.{ℕ, zero, suc, _+_, _-_, _*_, _/_, _%_, _<_}
-use native.Mathlib.Nat.{zero-lt-suc, div-lt-iff-lt-mul}
+use Prim.Native.Nat.{ℕ, _+_, _-_, _*_, _/_, _%_, _<_}
 use native.Mathlib.Omega.{arith}
 use lib.IntN.{ℤ, pos, negℤ, _+ℤ_, _-ℤ_, _*ℤ_}
-use Rattle.lists.proofs.Grid.{row-of, column-of}
+use Rattle.lists.proofs.Grid.{row-of, column-of, square-row}
 use Rattle.points.specs.declared.Quad.{Quad}
 use Rattle.points.specs.Turned.{turnedOnce, turnedLeft}
 use Rattle.points.proofs.Any.{any-turned}
@@ -35,10 +34,6 @@ swapped x y z = diff-same (diff-plus (diff-plus (diff x) (diff y)) (diff z)) (di
 -- counted from the other end
 middle-back : (side i : ℕ) → i < side → fromMiddle side (side - 1 - i) ≡ negℤ (fromMiddle side i)
 middle-back side i h = diff-same (middle side (side - 1 - i)) (diff-neg (middle side i)) (omega arith)
-
-positive : (edge k : ℕ) → k < edge * edge → 0 < edge
-positive zero k h = absurd (omega arith)
-positive (suc e) k h = zero-lt-suc e
 
 -- S stays, A becomes −B, B becomes A
 module _ (q0 q1 q2 q3 : ℤ) where
@@ -72,8 +67,7 @@ module _ (q0 q1 q2 q3 : ℤ) where
   pub sample-turned : (edge border k : ℕ) → k < edge * edge
       → samplePixel (axisOf q1 q2 q3 q0) edge border k ≡ samplePixel first edge border (k % edge * edge + (edge - 1 - k / edge))
   sample-turned edge border k h =
-      let E : 0 < edge = positive edge k h in
-      let r : k / edge < edge = div-lt-iff-lt-mul E .1 h in
+      let r = square-row edge k h in
       let c : edge - 1 - k / edge < edge = omega arith in
       let i : border + k / edge < sideOf edge border = omega arith in
       let e : sideOf edge border - 1 - (border + k / edge) ≡ border + (edge - 1 - k / edge) = omega arith in

@@ -1,33 +1,20 @@
 -- Floats that are equal as numbers have one threshold, also +0.0 and -0.0. Assumes nothing.
 use mathlib.Core.Path.{_≡_, refl, sym, ap, _∙_, subst}
 use mathlib.Core.Bool.{Bool, true, false, _&&_, _||_, cond, Bool·beq, true≢false, or-true}
-use Prim.Native.Nat.{ℕ, _-_, _*_, _/_, _^_, _<_}
-use native.Mathlib.Nat.{mul-assoc, mul-left-comm, mul-right-comm, mul-pos, zero-mul}
+use Prim.Native.Nat.{ℕ, _*_, _<_}
+use native.Mathlib.Nat.{mul-assoc, mul-left-comm, mul-pos, zero-mul}
 use borrow.Author.Tests.{eqb-true}
 use lib.Dec.{T, eqb, lit<}
-use lib.Pow.{pow-pos}
 use lib.IntN.{ℤ, negsuc}
-use lib.Ieee.{Float, nan, inf, fin, Format, binary32, up, down, low, prec, size, units, level, unlike, round, mul, eq, ofBits}
+use lib.Ieee.{Float, nan, inf, fin, Format, binary32, up, down, level, unlike, round, mul, eq, ofBits}
 use lib.Ieee.Exact.{HasValue, round-exact}
-use lib.Ieee.Fits.{down-pos, core, round-is}
-use lib.Ieee.Nearest.{closest-same, div-same}
-use lib.Ieee.Scale.{finite}
+use lib.Ieee.Fits.{down-pos}
+use lib.Ieee.Scale.{finite, round-same}
 use Rattle.samples.specs.Samples.{zeroF}
 use Rattle.threshold.specs.Threshold.{twentieth, thresholdOf}
 use Rattle.threshold.proofs.Order.{no-factor}
 
 -- equal fractions are rounded alike
-round-same : (f : Format) (s : Bool) (a b c d : ℕ) → 0 < b → 0 < d → a * d ≡ c * b → round f s a b ≡ round f s c d
-round-same f s a b c d B D e =
-    let l = 2 ^ low f in
-    let x : a * l * d ≡ c * l * b = mul-right-comm a l d ∙ ap (λ (z : ℕ). z * l) e ∙ mul-right-comm c b l in
-    let k = size (c * l / d) - prec f in
-    let y : a * l * (d * 2 ^ k) ≡ c * l * (b * 2 ^ k) = sym (mul-assoc (a * l) d (2 ^ k)) ∙ ap (λ (z : ℕ). z * 2 ^ k) x ∙ mul-assoc (c * l) b (2 ^ k) in
-    round-is f s a b
-    ∙ ap (λ (z : ℕ). core f s (a * l) b (size z - prec f)) (div-same (a * l) b (c * l) d B D x)
-    ∙ ap (λ (z : ℕ). units f s z k) (closest-same (a * l) (b * 2 ^ k) (c * l) (d * 2 ^ k) (mul-pos B (pow-pos k)) (mul-pos D (pow-pos k)) y)
-    ∙ sym (round-is f s c d)
-
 mul-same : (f : Format) (s : Bool) (m : ℕ) (e : ℤ) (n : ℕ) (d : ℤ) (t : Bool) (c : ℕ) (g : ℤ) → m * up e * down d ≡ n * up d * down e → mul f (fin s m e) (fin t c g) ≡ mul f (fin s n d) (fin t c g)
 unfolding mul
 mul-same f s m e n d t c g h =

@@ -11,7 +11,7 @@ use lib.Dec.{leb}
 use lib.Bits.{bitXor, xor-shr, xor-step, xor-lt, differ}
 use lib.Count.{ones, ones-cat}
 use Rattle.lists.specs.Sum.{sum}
-use Rattle.lists.proofs.Sum.{sum-ext, sum-le, sum-plus, sum-add, sum-none}
+use Rattle.lists.proofs.Sum.{sum-ext, sum-le, sum-plus, sum-most, sum-add, sum-none}
 use Rattle.word.specs.Word.{bit, word, source, turn, turns, differingIn, differing}
 use Rattle.word.proofs.Bits.{bit-lt, bit-above, word-lt, word-mod}
 use Rattle.word.proofs.Turn.{bit-turn, sum-turn, turns-lt, turns-add, turns-four, turns-past-four}
@@ -79,16 +79,17 @@ le-add-differ x zero = omega arith
 le-add-differ zero (suc y) = omega arith
 le-add-differ (suc x) (suc y) = omega (arith, le-add-differ x y)
 
-le-differ-add : (x y : ℕ) → x ≤ differ x y + y
-le-differ-add zero y = omega arith
-le-differ-add (suc x) zero = omega arith
-le-differ-add (suc x) (suc y) = omega (arith, le-differ-add x y)
+differ-comm : (x y : ℕ) → differ x y ≡ differ y x
+differ-comm zero zero = refl
+differ-comm zero (suc y) = refl
+differ-comm (suc x) zero = refl
+differ-comm (suc x) (suc y) = differ-comm x y
 
 differ-tri : (x y z : ℕ) → differ x z ≤ differ x y + differ y z
 differ-tri zero y z = le-add-differ z y
 differ-tri (suc x) zero zero = omega arith
 differ-tri (suc x) zero (suc z) = omega (arith, differ-le-add x z)
-differ-tri (suc x) (suc y) zero = omega (arith, le-differ-add x y)
+differ-tri (suc x) (suc y) zero = omega (arith, le-add-differ x y, differ-comm x y)
 differ-tri (suc x) (suc y) (suc z) = differ-tri x y z
 
 pub triangle : (n a b c : ℕ) → differingIn n a c ≤ differingIn n a b + differingIn n b c
@@ -98,25 +99,14 @@ triangle n a b c =
     let t = sum-le n (λ k. differ (bit a k) (bit c k)) (λ k. differ (bit a k) (bit b k) + differ (bit b k) (bit c k)) (λ k. differ-tri (bit a k) (bit b k) (bit c k)) in
     omega arith
 
-differ-comm : (x y : ℕ) → differ x y ≡ differ y x
-differ-comm zero zero = refl
-differ-comm zero (suc y) = refl
-differ-comm (suc x) zero = refl
-differ-comm (suc x) (suc y) = differ-comm x y
-
 pub differing-comm : (n a b : ℕ) → differingIn n a b ≡ differingIn n b a
 unfolding differingIn
 differing-comm n a b = sum-ext n (λ k. differ (bit a k) (bit b k)) (λ k. differ (bit b k) (bit a k)) (λ k l. differ-comm (bit a k) (bit b k))
 
-one-each : (n : ℕ) → sum n (λ k. 1) ≡ n
-unfolding sum
-one-each zero = refl
-one-each (suc n) = omega (arith, one-each n)
-
 pub differing-le : (n a b : ℕ) → differingIn n a b ≤ n
 unfolding differingIn
 differing-le n a b =
-    omega (arith, one-each n, sum-le n (λ k. differ (bit a k) (bit b k)) (λ k. 1) (λ k. le-of-suc-le-suc (differ-lt (bit a k) (bit b k) (bit-lt a k) (bit-lt b k))))
+    omega (arith, sum-most n 1 (λ k. differ (bit a k) (bit b k)) (λ k l. le-of-suc-le-suc (differ-lt (bit a k) (bit b k) (bit-lt a k) (bit-lt b k))))
 
 -- ---- words of a square with an edge up to 8, in any turns
 

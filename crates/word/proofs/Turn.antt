@@ -1,10 +1,11 @@
 -- The quarter turn of a square, for all edges together. Assumes nothing.
 use mathlib.Core.Path.{_≡_, refl, sym, ap, ap₂, _∙_, subst}
 use Prim.Native.Nat.{ℕ, zero, suc, _+_, _-_, _*_, _/_, _%_, _^_, _≤_, _<_}
-use native.Mathlib.Nat.{not-suc-le-zero, div-lt-iff-lt-mul, mod-lt, div-add-mod', zero-add, suc-add, lt-of-lt-of-le, le-trans, mul-le-mul-left}
+use native.Mathlib.Nat.{div-add-mod', zero-add, suc-add, lt-of-lt-of-le, le-trans, mul-le-mul-left}
 use native.Mathlib.Omega.{arith}
 use lib.Arith.{digits-lt, digits-div, digits-mod}
 use Rattle.lists.specs.Sum.{sum}
+use Rattle.lists.proofs.Grid.{square-row, square-column}
 use Rattle.lists.proofs.Sum.{sum-ext, sum-rows, sum-swap, sum-back}
 use Rattle.word.specs.Word.{bit, source, turn, turns}
 use Rattle.word.proofs.Bits.{bit-lt, bit-mod, bit-word, word-lt, word-ext, same-bits}
@@ -15,13 +16,7 @@ module _ (e : ℕ) where
 
   -- what holds at each row and column holds at each place of the square
   pub by-square : (P : ℕ → Type 0) → ((i j : ℕ) → i < e → j < e → P (i * e + j)) → (k : ℕ) → k < e * e → P k
-  by-square P h k l = go e refl
-    where
-      go : (d : ℕ) → e ≡ d → P k
-      go zero p = absurd (not-suc-le-zero (subst (λ (x : ℕ). k < x * x) p l))
-      go (suc d) p =
-          let q : 0 < e = omega arith in
-          subst P (div-add-mod' k e) (h (k / e) (k % e) (div-lt-iff-lt-mul q .1 l) (mod-lt k q))
+  by-square P h k l = subst P (div-add-mod' k e) (h (k / e) (k % e) (square-row e k l) (square-column e k l))
 
   pub source-lt : (k : ℕ) → k < e * e → source e k < e * e
   source-lt = by-square (λ (k : ℕ). source e k < e * e) (λ i j hi hj.

@@ -3,12 +3,12 @@ use borrow.Author.Needs.{needs}
 use denote.Ref.{now}
 use mathlib.Core.Path.{_≡_, refl, sym, ap, _∙_}
 use mathlib.Core.List.{List}
-use Prim.Native.Nat.{ℕ, _+_, _-_, _≤_, _<_}
+use Prim.Native.Nat.{ℕ, _+_, _-_, _<_}
 use native.Mathlib.Omega.{arith}
-use lib.ListN.{length, take, set, length-set}
+use lib.ListN.{length, set, length-set}
 use lib.Ieee.{Float}
 use Rattle.lists.specs.Tab.{tabulate}
-use Rattle.lists.proofs.Tab.{written-none, written-more, written-all}
+use Rattle.lists.proofs.Rows.{Filled, filled-none, filled-one, filled-all}
 use Rattle.samples.specs.Samples.{zeroF}
 use Rattle.response.specs.Steps.{rowResponse}
 use Rattle.response.proofs.Border.{off-end, last-end, row-end, row-off}
@@ -20,7 +20,7 @@ abbrev f : List Float → List Float → List Float → ℕ → Float
 f above here below = rowResponse above here below (length above)
 
 abbrev Inv-loop : tie.InvT-loop
-Inv-loop row₀ above here below last x₀ row x = (0 < x) × (x ≤ length above) × (length row ≡ length above) × (take x row ≡ tabulate x (f above here below))
+Inv-loop row₀ above here below last x₀ row x = (0 < x) × Filled (f above here below) (length above) x row
 
 abbrev μ-loop : tie.MeasureT-loop
 μ-loop row₀ above here below last x₀ row x = length above - x
@@ -32,12 +32,10 @@ St c = c .before .before .before .before .before
 loop-holds : tie.Need-loop-holds Inv-loop μ-loop
 loop-holds c =
     let s = c .before .before .before .before in
-    let a = s .args in (
-      omega arith,
-      omega (arith, s .pre .0, s .pre .1),
-      length-set (now (a .row)) 0 zeroF ∙ sym (s .pre .1),
-      written-more (f (now (a .above)) (now (a .here)) (now (a .below))) 0 (now (a .row)) zeroF (s .pre .0) refl (written-none (f (now (a .above)) (now (a .here)) (now (a .below))) (now (a .row))),
-    )
+    let a = s .args in
+    let n = length (now (a .above)) in
+    let g = f (now (a .above)) (now (a .here)) (now (a .below)) in
+    (omega arith, filled-one g n 0 (now (a .row)) zeroF (omega (arith, s .pre .0, s .pre .1)) refl (filled-none g n (now (a .row)) (sym (s .pre .1))))
 
 determinant-at-requires : tie.Need-determinant-at-requires Inv-loop μ-loop
 determinant-at-requires c κs =
@@ -69,15 +67,10 @@ loop-again c =
     let l = t .before .loop in
     let s = St (t .before) in
     let a = s .args in
-    let b : l .x < length (l .row) = omega (arith, t .loop-test .taken, l .inv .2, s .pre .1) in (
-      omega arith,
-      omega (arith, t .loop-test .taken, s .pre .1),
-      length-set (l .row) (l .x) (c .determinant-at .result) ∙ l .inv .2,
-      written-more (f (now (a .above)) (now (a .here)) (now (a .below))) (l .x) (l .row) (c .determinant-at .result) b (off c) (l .inv .3),
-    )
+    (omega arith, filled-one (f (now (a .above)) (now (a .here)) (now (a .below))) (length (now (a .above))) (l .x) (l .row) (c .determinant-at .result) (omega (arith, t .loop-test .taken, s .pre .1)) (off c) (l .inv .1))
 
 mul-row-2 : tie.Need-mul-row-2 Inv-loop μ-loop
-mul-row-2 c = omega (arith, c .if1 .taken, c .before .before .loop .inv .2, St (c .before .before) .good .1 .0 .1)
+mul-row-2 c = omega (arith, c .if1 .taken, c .before .before .loop .inv .1 .whole, St (c .before .before) .good .1 .0 .1)
 
 slice-write-row-3 : tie.Need-slice-write-row-3 Inv-loop μ-loop
 slice-write-row-3 c = c .if1 .taken
@@ -85,7 +78,7 @@ slice-write-row-3 c = c .if1 .taken
 same-length : tie.Need-same-length Inv-loop μ-loop
 same-length c =
     let l = c .before .before .loop in
-    length-set (l .row) (l .x) zeroF ∙ l .inv .2 ∙ St (c .before .before) .pre .1
+    length-set (l .row) (l .x) zeroF ∙ l .inv .1 .whole ∙ St (c .before .before) .pre .1
 
 returns : tie.Need-returns Inv-loop μ-loop
 returns c =
@@ -93,13 +86,14 @@ returns c =
     let s = St (c .before .before) in
     let a = s .args in
     let n = length (now (a .above)) in
-    let e : l .x + 1 ≡ n = omega (arith, c .if1 .taken, c .before .loop-test .left, l .inv .2, s .pre .1) in
-    written-all (f (now (a .above)) (now (a .here)) (now (a .below))) (l .x + 1) n (set (l .row) (l .x) zeroF) (length-set (l .row) (l .x) zeroF ∙ l .inv .2) e
-    (written-more (f (now (a .above)) (now (a .here)) (now (a .below))) (l .x) (l .row) zeroF (c .if1 .taken) (row-end (now (a .above)) (now (a .here)) (now (a .below)) n (l .x) (last-end n (l .x) e)) (l .inv .3))
+    let g = f (now (a .above)) (now (a .here)) (now (a .below)) in
+    let e : l .x + 1 ≡ n = omega (arith, c .if1 .taken, c .before .loop-test .left, l .inv .1 .whole, s .pre .1) in
+    filled-all g n (l .x + 1) (set (l .row) (l .x) zeroF) (omega (arith, e))
+    (filled-one g n (l .x) (l .row) zeroF (omega (arith, e)) (row-end (now (a .above)) (now (a .here)) (now (a .below)) n (l .x) (last-end n (l .x) e)) (l .inv .1))
     ∙ ap (λ (m : ℕ). tabulate m (rowResponse (now (a .above)) (now (a .here)) (now (a .below)) m)) (s .pre .1)
 
 same-length-2 : tie.Need-same-length-2 Inv-loop μ-loop
-same-length-2 c = c .before .before .loop .inv .2 ∙ St (c .before .before) .pre .1
+same-length-2 c = c .before .before .loop .inv .1 .whole ∙ St (c .before .before) .pre .1
 
 returns-2 : tie.Need-returns-2 Inv-loop μ-loop
 returns-2 c =
@@ -107,7 +101,7 @@ returns-2 c =
     let s = St (c .before .before) in
     let a = s .args in
     let n = length (now (a .above)) in
-    written-all (f (now (a .above)) (now (a .here)) (now (a .below))) (l .x) n (l .row) (l .inv .2) (omega (arith, c .if1 .left, l .inv .1, l .inv .2)) (l .inv .3)
+    filled-all (f (now (a .above)) (now (a .here)) (now (a .below))) n (l .x) (l .row) (omega (arith, c .if1 .left, l .inv .1 .whole)) (l .inv .1)
     ∙ ap (λ (m : ℕ). tabulate m (rowResponse (now (a .above)) (now (a .here)) (now (a .below)) m)) (s .pre .1)
 
 pub respond-row-spec : {M : Type 1} → statement M

@@ -1,13 +1,12 @@
 -- The loop keeps: the samples before i are 0.0.
 use borrow.Author.Needs.{needs}
 use denote.Ref.{now}
-use mathlib.Core.Path.{_≡_, refl, _∙_}
-use Prim.Native.Nat.{ℕ, _-_, _≤_}
+use mathlib.Core.Path.{refl}
+use Prim.Native.Nat.{ℕ, _-_}
 use native.Mathlib.Omega.{arith}
-use lib.ListN.{length, take, length-set}
+use lib.ListN.{length}
 use lib.Ieee.{Float}
-use Rattle.lists.specs.Tab.{tabulate}
-use Rattle.lists.proofs.Tab.{written-none, written-more, written-all}
+use Rattle.lists.proofs.Rows.{Filled, filled-none, filled-one, filled-all}
 use Rattle.samples.specs.Samples.{zeroF}
 use Rattle.samples.proofs.clear.Statement.{statement}
 use Rattle.samples.proofs.clear.Tie as tie
@@ -16,27 +15,26 @@ abbrev at : ℕ → Float
 at x = zeroF
 
 abbrev Inv-loop : tie.InvT-loop
-Inv-loop row₀ i₀ row i = (i ≤ length row₀) × (length row ≡ length row₀) × (take i row ≡ tabulate i at)
+Inv-loop row₀ i₀ row i = Filled at (length row₀) i row
 
 abbrev μ-loop : tie.MeasureT-loop
 μ-loop row₀ i₀ row i = length row₀ - i
 
 loop-holds : tie.Need-loop-holds Inv-loop μ-loop
-loop-holds c = (omega arith, refl, written-none at (now (c .args .row)))
+loop-holds c = let row = now (c .args .row) in filled-none at (length row) row refl
 
 loop-again : tie.Need-loop-again Inv-loop μ-loop
 loop-again c =
-    let t = c in
-    let l = t .before .loop in
-    (omega arith, length-set (l .row) (l .i) zeroF ∙ l .inv .1, written-more at (l .i) (l .row) zeroF (t .loop-test .taken) refl (l .inv .2))
+    let l = c .before .loop in
+    filled-one at (length (now (c .before .before .args .row))) (l .i) (l .row) zeroF (omega (arith, l .inv .whole, c .loop-test .taken)) refl (l .inv)
 
 same-length : tie.Need-same-length Inv-loop μ-loop
-same-length c = c .before .loop .inv .1
+same-length c = c .before .loop .inv .whole
 
 returns : tie.Need-returns Inv-loop μ-loop
 returns c =
     let l = c .before .loop in
-    written-all at (l .i) (length (now (c .before .before .args .row))) (l .row) (l .inv .1) (omega arith) (l .inv .2)
+    filled-all at (length (now (c .before .before .args .row))) (l .i) (l .row) (omega (arith, l .inv .whole, c .loop-test .left)) (l .inv)
 
 pub clear-spec : {M : Type 1} → statement M
 clear-spec =
