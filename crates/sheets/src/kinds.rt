@@ -5,10 +5,7 @@ use crate::prints::four_readings;
 use muosleap::detector::Likeness;
 use muosleap::detector::check_likeness;
 use painter::Print;
-use tag_families::codes::T16H5;
-use tag_families::codes::T25H7;
-use tag_families::codes::T25H9;
-use tag_families::codes::T36H11;
+use tag_families::codes::CODES;
 ghost use Prim.Native.Nat.{_≤_};
 
 // How many codes a family has.
@@ -90,12 +87,9 @@ pub fn likeness(number: u8) -> Tally {
         return Tally::new();
     }
     let family = tag_families::family(number);
-    match number {
-        0 => passes(check_likeness(family, &T16H5)),
-        1 => passes(check_likeness(family, &T25H7)),
-        2 => passes(check_likeness(family, &T25H9)),
-        _ => passes(check_likeness(family, &T36H11)),
-    }
+    let all = CODES;
+    let codes = tag_families::codes_of(number, &all);
+    passes(check_likeness(family, codes))
 }
 
 fn one_code(plane: &mut [u8], number: u8, cell: usize, k: usize, tally: Tally) -> Tally {
