@@ -5,10 +5,7 @@ use points::Quad;
 use reader::Reading;
 use refusals::Frame;
 use tables::Family;
-use tag_families::codes::T16H5;
-use tag_families::codes::T25H7;
-use tag_families::codes::T25H9;
-use tag_families::codes::T36H11;
+use tag_families::codes::CODES;
 ghost use mathlib.Core.Path.{_≡_};
 ghost use mathlib.Core.Bool.{false};
 ghost use Prim.Native.Nat.{_+_, _*_, _≤_, _<_};
@@ -132,10 +129,7 @@ pub fn try_decode_quads_in(
         ≡ listing (now (plane .entry)) frame (familyOf family) (codesOf family) (now (quads .entry)) (now (rows .entry)) (now (corners .entry)) ⌝ }
 {
     let table = tag_families::family(family);
-    match family {
-        0 => try_decode_quads(plane, frame, table, &T16H5, quads, rows, corners),
-        1 => try_decode_quads(plane, frame, table, &T25H7, quads, rows, corners),
-        2 => try_decode_quads(plane, frame, table, &T25H9, quads, rows, corners),
-        _ => try_decode_quads(plane, frame, table, &T36H11, quads, rows, corners),
-    }
+    let all = CODES;
+    let codes = tag_families::codes_of(family, &all);
+    try_decode_quads(plane, frame, table, codes, quads, rows, corners)
 }

@@ -12,7 +12,6 @@ use Rattle.points.specs.declared.Quad.{Quad}
 use Rattle.tables.specs.Table.{badTable}
 use Rattle.tables.specs.declared.Family.{Family}
 use Rattle.tag_families.specs.Families.{familyOf, codesOf}
-use Rattle.tag_families.proofs.Families.{families-pass}
 use Rattle.reader.specs.Reading.{reading}
 use Rattle.muosleap.specs.Quad.{decodeQuad, decodeQuadIn}
 
@@ -29,16 +28,6 @@ module _ (plane : List ℕ) (frame : Frame) (family : Family) (codes : List ℕ)
   unfolding decodeQuad
   quad-read p t = simp (p, t)
 
--- a table is that of family n
-pub record IsTable (n : ℕ) (family : Family) (codes : List ℕ) : Type 0 where
-  pub known : n < 5
-  pub is-family : family ≡ familyOf n
-  pub is-codes : codesOf n ≡ codes
-
--- no family's table is refused
-pub table-passes : {n : ℕ} {family : Family} {codes : List ℕ} → IsTable n family codes → badTable family codes ≡ false
-table-passes {n} {family} {codes} t = ap₂ badTable (t .is-family) (sym (t .is-codes)) ∙ families-pass n (t .known)
-
 module _ (plane : List ℕ) (frame : Frame) (n : ℕ) (quad : Quad) where
   pub in-1 : badFrame (length plane) frame ≡ true → decodeQuadIn plane frame n quad ≡ refused 1
   unfolding decodeQuadIn
@@ -48,7 +37,7 @@ module _ (plane : List ℕ) (frame : Frame) (n : ℕ) (quad : Quad) where
   unfolding decodeQuadIn
   in-6 p h = simp (p, le-ltb n 5 h)
 
-  pub in-read : {family : Family} {codes : List ℕ} → badFrame (length plane) frame ≡ false → IsTable n family codes → reading plane frame family codes quad ≡ decodeQuadIn plane frame n quad
+  pub in-read : {family : Family} {codes : List ℕ} → badFrame (length plane) frame ≡ false → n < 5 → family ≡ familyOf n → codes ≡ codesOf n → reading plane frame family codes quad ≡ decodeQuadIn plane frame n quad
   unfolding decodeQuadIn
-  in-read {family} {codes} p t =
-      ap₂ (λ (f : Family) (l : List ℕ). reading plane frame f l quad) (t .is-family) (sym (t .is-codes)) ∙ sym (simp (p, lt-ltb n 5 (t .known)))
+  in-read p known e d =
+      ap₂ (λ (f : Family) (l : List ℕ). reading plane frame f l quad) e d ∙ sym (simp (p, lt-ltb n 5 known))

@@ -5,10 +5,7 @@ use reader::Reading;
 use refusals::Frame;
 use search::Found;
 use tables::Family;
-use tag_families::codes::T16H5;
-use tag_families::codes::T25H7;
-use tag_families::codes::T25H9;
-use tag_families::codes::T36H11;
+use tag_families::codes::CODES;
 ghost use mathlib.Core.Path.{_≡_};
 ghost use Rattle.levels.specs.Bits.{paperBits};
 ghost use Rattle.search.specs.Answer.{paperFound};
@@ -106,10 +103,7 @@ pub fn try_decode_quad_in(plane: &[u8], frame: Frame, family: u8, quad: Quad) ->
         return Reading::Refused(6);
     }
     let table = tag_families::family(family);
-    match family {
-        0 => reader::try_decode_quad(plane, frame, table, &T16H5, quad),
-        1 => reader::try_decode_quad(plane, frame, table, &T25H7, quad),
-        2 => reader::try_decode_quad(plane, frame, table, &T25H9, quad),
-        _ => reader::try_decode_quad(plane, frame, table, &T36H11, quad),
-    }
+    let all = CODES;
+    let codes = tag_families::codes_of(family, &all);
+    reader::try_decode_quad(plane, frame, table, codes, quad)
 }

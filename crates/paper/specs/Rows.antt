@@ -10,10 +10,10 @@ use Rattle.word.specs.Word.{turns}
 use Rattle.points.specs.declared.Point.{Point}
 use Rattle.points.specs.declared.Quad.{Quad}
 use Rattle.places.specs.declared.Axis.{Axis}
-use Rattle.places.specs.Place.{axesOf, modulePlace, modulePixel}
+use Rattle.places.specs.Place.{axesOf, modulePlace, modulePixel, sideOf}
 use Rattle.levels.specs.Levels.{middleOf, unsure}
 use Rattle.search.specs.Search.{Seen}
-use Rattle.tag_families.specs.Codes.{t16h5}
+use Rattle.tag_families.specs.Families.{familyOf, codesOf}
 use Rattle.muosleap.specs.Codes.{turned, bestTag}
 use Rattle.muosleap.specs.BitCode.{bitCode}
 use Rattle.muosleap_picture.specs.ImageUtil.{hessianResponse}
@@ -31,9 +31,12 @@ abbrev pub wordNumbers : Outcome ℕ → List ℕ
 wordNumbers (accepted w) = 0 ∷ w ∷ []
 wordNumbers (refused n) = n ∷ []
 
--- T16H5: edge 4, match threshold 1
+-- T16H5 is family 0
 abbrev searched : ℕ → List ℕ
-searched w = tagNumbers (bestTag w 1 t16h5 4)
+searched w = tagNumbers (bestTag w (familyOf 0 .«hamming_distance») (codesOf 0) (familyOf 0 .edge))
+
+abbrev side : ℕ
+side = sideOf (familyOf 0 .edge) (familyOf 0 .border)
 
 -- the levels that the quad reader takes: band 10, three unsure allowed
 abbrev levelled : List ℕ → List ℕ
@@ -53,9 +56,9 @@ abbrev square : Quad
 square =
     record { q0 = corner half half; q1 = corner sixteenHalf half; q2 = corner sixteenHalf sixteenHalf; q3 = corner half sixteenHalf }
 
--- module (2, 2) of an axis: twice its place in 4096 × side parts of a pixel, and its pixel
+-- module (2, 2) of T16H5 on an axis: twice its place in 4096 × side parts of a pixel, and its pixel
 abbrev module22 : Axis → List ℕ
-module22 axis = 2 * natAbs (modulePlace axis 8 2 2) ∷ modulePixel axis 8 2 2 ∷ []
+module22 axis = 2 * natAbs (modulePlace axis side 2 2) ∷ modulePixel axis side 2 2 ∷ []
 
 -- a plane of f32, each sample by its bits: 0, and 1, -1, -2 and -4 as named
 abbrev plane : List ℕ → List Float
@@ -97,8 +100,8 @@ rows =
     record { worked = middleOf (0 ∷ 51 ∷ []) ∷ []; says = 26 ∷ [] } ∷
     record { worked = unsure 26 10 17 ∷ unsure 26 10 35 ∷ unsure 26 10 16 ∷ unsure 26 10 36 ∷ []; says = 1 ∷ 1 ∷ 0 ∷ 0 ∷ [] } ∷
     -- "T16H5 quad (0.5, 0.5), (16.5, 0.5), (16.5, 16.5), (0.5, 16.5): module (2, 2) at 5.5, 5.5, pixel 6, 6"
-    record { worked = module22 (axesOf square .x); says = 11 * (4096 * 8) ∷ 6 ∷ [] } ∷
-    record { worked = module22 (axesOf square .y); says = 11 * (4096 * 8) ∷ 6 ∷ [] } ∷
+    record { worked = module22 (axesOf square .x); says = 11 * (4096 * side) ∷ 6 ∷ [] } ∷
+    record { worked = module22 (axesOf square .y); says = 11 * (4096 * side) ∷ 6 ∷ [] } ∷
     -- "3 × 3 plane with 1 left and right of the middle, −1 above and below, else 0: response −4"
     record {
       worked = responded (0 ∷ minusOne ∷ 0 ∷ one ∷ 0 ∷ one ∷ 0 ∷ minusOne ∷ 0 ∷ []) record { width = 3; height = 3 };

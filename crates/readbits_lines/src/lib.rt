@@ -1,6 +1,6 @@
 // What `readbits` prints for the bytes that it has read.
 use search::Found;
-use tag_families::codes::T16H5;
+use tag_families::codes::CODES;
 ghost use mathlib.Core.Path.{_≡_};
 ghost use mathlib.Core.Bool.{cond};
 ghost use mathlib.Core.List.{[], _∷_, _++_};
@@ -83,7 +83,9 @@ fn search_t16h5(bits: u64) -> Found
     ensures { λ r. ⌜ paperFound r ≡ searched bits ⌝ }
 {
     let family = tag_families::family(0);
-    search::best_tag(bits, family.hamming_distance, &T16H5, family.edge)
+    let all = CODES;
+    let codes = tag_families::codes_of(0, &all);
+    search::best_tag(bits, family.hamming_distance, codes, family.edge)
 }
 
 // Puts what follows a word, id and turn or `none`, and ends the line.

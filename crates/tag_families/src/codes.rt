@@ -1,6 +1,6 @@
-// The tables of the four code lists.
-
-pub const T16H5: [u64; 30] = [
+// The code lists one after another, under the names that the original has for them.
+pub const CODES: [u64; 894] = [
+    // T16H5
     0x231B,
     0x2EA5,
     0x346A,
@@ -31,9 +31,7 @@ pub const T16H5: [u64; 30] = [
     0xD530,
     0x07CA,
     0xAF2E,
-];
-
-pub const T25H7: [u64; 242] = [
+    // T25H7
     0x04B770D,
     0x11693E6,
     0x1A599AB,
@@ -276,9 +274,7 @@ pub const T25H7: [u64; 242] = [
     0x0337141,
     0x002B54D,
     0x1233A70,
-];
-
-pub const T25H9: [u64; 35] = [
+    // T25H9
     0x155CBF1,
     0x1E4D1B6,
     0x17B0B68,
@@ -314,9 +310,7 @@ pub const T25H9: [u64; 35] = [
     0x0FA0AD1,
     0x1B763B0,
     0x0B991CE,
-];
-
-pub const T36H11: [u64; 587] = [
+    // T36H11
     0xD5D628584,
     0xD97F18B49,
     0xDD280910E,
