@@ -13,7 +13,6 @@ use points::rotate_left;
 use vectors::Tally;
 use vectors::answers::row_at;
 use vectors::answers::same;
-use vectors::frame_of;
 use vectors::product;
 use vectors::report;
 use vectors::say;
@@ -22,7 +21,7 @@ use vectors::say;
 fn put_starts(quads: &mut [f32], quad: Quad) {
     let mut i = 0;
     while i < quads.len() / 8 {
-        listing::put_quad(quads, i, rotate_left(quad, (i % 4) as u8));
+        points::put_quad(quads, i, rotate_left(quad, (i % 4) as u8));
         i += 1;
     }
 }
@@ -50,7 +49,7 @@ fn read_list(
     rows: &mut [u64],
     corners: &mut [f32],
 ) -> Listed {
-    let frame = frame_of(sheet.wide, sheet.wide);
+    let frame = refusals::packed_frame(sheet.wide, sheet.wide);
     if sheet.number < 5 {
         return try_decode_quads_in(plane, frame, sheet.number, quads, rows, corners);
     }

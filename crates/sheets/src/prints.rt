@@ -14,7 +14,6 @@ use vectors::answers::Answer;
 use vectors::answers::answer_of;
 use vectors::answers::found;
 use vectors::answers::same;
-use vectors::frame_of;
 use vectors::product;
 
 // What is painted: the table by its number and as it is lent, the code by its position, the word for it, the print, and the side of
@@ -35,7 +34,7 @@ pub fn own(id: usize, quad: Quad, start: u8) -> Answer {
 
 // Whether a start is read as demand 3 has it: with the table lent, and for a family by its number too.
 fn reads_own(plane: &[u8], codes: &[u64], sheet: Sheet, quad: Quad, start: u8) -> bool {
-    let frame = frame_of(sheet.wide, sheet.wide);
+    let frame = refusals::packed_frame(sheet.wide, sheet.wide);
     let turned = rotate_left(quad, start);
     let answer = own(sheet.id, quad, start);
     let lent = answer_of(try_decode_quad(plane, frame, sheet.family, codes, turned));
@@ -47,7 +46,7 @@ fn reads_own(plane: &[u8], codes: &[u64], sheet: Sheet, quad: Quad, start: u8) -
 }
 
 pub fn paint(plane: &mut [u8], sheet: Sheet) -> Painted {
-    let frame = frame_of(sheet.wide, sheet.wide);
+    let frame = refusals::packed_frame(sheet.wide, sheet.wide);
     if sheet.number < 5 {
         return paint_tag_in(plane, frame, sheet.number, sheet.word, sheet.print);
     }

@@ -65,7 +65,7 @@ pub fn row_at(rows: &[u64], corners: &[f32], q: usize) -> Answer {
         refusal: rows[at],
         id: rows[at + 1],
         turn: rows[at + 2],
-        corners: listing::quad_at(corners, q),
+        corners: points::quad_at(corners, q),
     }
 }
 
@@ -73,7 +73,7 @@ pub fn row_at(rows: &[u64], corners: &[f32], q: usize) -> Answer {
 pub fn quad_at(s: &[u8]) -> Quad {
     let mut numbers = [0.0f32; 8];
     floats::fill(floats::EACH, 0, s, &mut numbers);
-    listing::quad_at(&numbers, 0)
+    points::quad_at(&numbers, 0)
 }
 
 // An answer of 36 bytes. Bytes that there are not are 0.

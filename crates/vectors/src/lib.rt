@@ -7,7 +7,6 @@ ghost use Prim.Native.Nat.{_<_, _≤_};
 ghost use lib.ListN.{length};
 ghost use Rattle.io.specs.Counts.{Counts};
 use libc::STDOUT_FILENO;
-use refusals::Frame;
 
 // Reads the file into `buffer`, and answers how many bytes it has there.
 pub fn load(path: &[u8], buffer: &mut [u8]) -> usize
@@ -42,11 +41,6 @@ pub fn product(a: usize, b: usize, most: usize) -> usize
         return most;
     }
     least(a * b, most)
-}
-
-// The sides of an 8-bit plane.
-pub fn frame_of(width: usize, height: usize) -> Frame {
-    Frame { width, height }
 }
 
 // What stands in `s` from `at` on.

@@ -10,7 +10,6 @@ use refusals::Frame;
 use vectors::answers::quad_at;
 use vectors::answers::quad_of;
 use vectors::answers::same_quad;
-use vectors::frame_of;
 use vectors::least;
 use vectors::product;
 use vectors::rest;
@@ -54,7 +53,7 @@ fn painted_alike(s: &[u8], painted: Painted) -> bool {
 fn plane_alike(frame: &[u8], plane: &mut [u8]) -> bool {
     let painted = paint_tag(
         plane,
-        frame_of(u64_at(frame, 1) as usize, u64_at(frame, 9) as usize),
+        refusals::packed_frame(u64_at(frame, 1) as usize, u64_at(frame, 9) as usize),
         u8_at(frame, 21),
         u8_at(frame, 22),
         u64_at(frame, 23),
@@ -84,7 +83,7 @@ fn small_print_at(s: &[u8]) -> Print {
 }
 
 fn print_alike(record: &[u8], plane: &mut [u8]) -> bool {
-    let frame = frame_of(u8_at(record, 1) as usize, u8_at(record, 2) as usize);
+    let frame = refusals::packed_frame(u8_at(record, 1) as usize, u8_at(record, 2) as usize);
     let number = u8_at(record, 3);
     let print = small_print_at(rest(record, 12));
     match paint_tag_in(plane, frame, number, u64_at(record, 4), print) {

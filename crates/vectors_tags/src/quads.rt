@@ -13,7 +13,6 @@ use vectors::answers::answer_at;
 use vectors::answers::answer_of;
 use vectors::answers::quad_at;
 use vectors::floats;
-use vectors::frame_of;
 use vectors::least;
 use vectors::product;
 use vectors::rest;
@@ -33,7 +32,7 @@ pub fn reading_alike(plane: &[u8], frame: Frame, number: u8, quad: Quad, s: &[u8
 }
 
 fn picture(lent: &[u8]) -> Frame {
-    frame_of(u16_at(lent, 1) as usize, u16_at(lent, 3) as usize)
+    refusals::packed_frame(u16_at(lent, 1) as usize, u16_at(lent, 3) as usize)
 }
 
 fn quad_alike(frame: &[u8], lent: &[u8]) -> bool {
@@ -116,7 +115,7 @@ fn corners_alike(frame: &[u8]) -> bool {
     let n = product(width, height, 4096);
     let answer = answer_of(try_decode_quad_in(
         &pixels[0..n],
-        frame_of(width, height),
+        refusals::packed_frame(width, height),
         0,
         quad_at(rest(frame, 6)),
     ));
@@ -146,7 +145,7 @@ fn number_alike(frame: &[u8]) -> bool {
     let count = length_at(frame, 30, 1025);
     let answer = answer_of(try_decode_quad(
         &pixels[0..n],
-        frame_of(u64_at(frame, 1) as usize, u64_at(frame, 9) as usize),
+        refusals::packed_frame(u64_at(frame, 1) as usize, u64_at(frame, 9) as usize),
         family_at(rest(frame, 19)),
         &codes[0..count],
         quad_at(rest(frame, 33)),
@@ -171,7 +170,7 @@ fn list_number_alike(frame: &[u8]) -> bool {
     };
     let listed = try_decode_quads(
         &pixels[0..n],
-        frame_of(4, 4),
+        refusals::packed_frame(4, 4),
         family,
         &[0],
         &quads[0..a],
