@@ -5,7 +5,6 @@ use crate::prints::four_readings;
 use painter::Print;
 use vectors::Tally;
 use vectors::product;
-ghost use Prim.Native.Nat.{_<_, _≤_};
 
 // Every code at each of its four turns, in the smallest plane that takes it.
 pub const TURNS: u8 = 0;
@@ -17,9 +16,7 @@ pub const CORNERS: u8 = 1;
 pub const MISPRINTS: u8 = 2;
 
 // The misprints that are tried: none below threshold 1, each module below 2, each module and 36 pairs of modules below 3 and more.
-fn misprints_of(number: u8) -> usize
-    ensures { λ r. ⌜ r ≤ 72 ⌝ }
-{
+fn misprints_of(number: u8) -> usize {
     match number {
         0 => 0,
         1 | 2 => 25,
@@ -62,22 +59,25 @@ pub fn sheet_of(number: u8, id: usize, cell: usize, turn: usize, wrong: u64) -> 
     }
 }
 
+// The cells that the turns are tried in; the corners are in the first two.
+const CELLS: [usize; 5] = [1, 2, 3, 10, 64];
+
 // How many sheets there are of each code.
-fn each(number: u8, kind: u8) -> usize
-    ensures { λ r. ⌜ r ≤ 72 ⌝ }
-{
-    if kind == MISPRINTS {
-        return misprints_of(number);
+fn each(number: u8, kind: u8) -> usize {
+    match kind {
+        TURNS => 20,
+        CORNERS => 8,
+        _ => misprints_of(number),
     }
-    4
 }
 
 // Sheet p of a code.
-fn nth(number: u8, kind: u8, id: usize, cell: usize, p: usize) -> Sheet {
+fn nth(number: u8, kind: u8, id: usize, p: usize) -> Sheet {
+    let cell = CELLS[p / 4 % 5];
     match kind {
         TURNS => sheet_of(number, id, cell, p, 0),
         CORNERS => moved(sheet_of(number, id, cell, id, 0), p),
-        _ => sheet_of(number, id, cell, id, pattern(p)),
+        _ => sheet_of(number, id, 3, id, pattern(p)),
     }
 }
 
@@ -98,7 +98,6 @@ fn one_code(
     table: &[u64],
     number: u8,
     kind: u8,
-    cell: usize,
     id: usize,
     tally: Tally,
 ) -> Tally {
@@ -106,25 +105,18 @@ fn one_code(
     let mut sum = tally;
     let mut p = 0;
     while p < n {
-        sum = four_readings(plane, table, nth(number, kind, id, cell, p), sum);
+        sum = four_readings(plane, table, nth(number, kind, id, p), sum);
         p += 1;
     }
     sum
 }
 
 // The sheets of a kind.
-pub fn all(
-    plane: &mut [u8],
-    table: &[u64],
-    number: u8,
-    kind: u8,
-    cell: usize,
-    tally: Tally,
-) -> Tally {
-    let mut sum = tally;
+pub fn all(plane: &mut [u8], table: &[u64], number: u8, kind: u8) -> Tally {
+    let mut sum = Tally::new();
     let mut id = 0;
     while id < table.len() {
-        sum = one_code(plane, table, number, kind, cell, id, sum);
+        sum = one_code(plane, table, number, kind, id, sum);
         id += 1;
     }
     sum

@@ -13,6 +13,7 @@ use points::rotate_left;
 use vectors::Tally;
 use vectors::answers::row_at;
 use vectors::answers::same;
+use vectors::least;
 use vectors::product;
 use vectors::report;
 use vectors::say;
@@ -56,42 +57,44 @@ fn read_list(
     try_decode_quads(plane, frame, sheet.family, table, quads, rows, corners)
 }
 
-// Prints how many rows of a list of `count` quads are right, or the refusal's number.
-fn list_of(plane: &[u8], table: &[u64], sheet: Sheet, quad: Quad, count: usize) {
-    let mut quads = [0.0f32; 8200];
-    let mut rows = [9u64; 3075];
-    let mut corners = [9.0f32; 8200];
-    let n = vectors::least(count, 1025);
-    put_starts(&mut quads, quad);
-    say(b"list of ", count as u64);
-    match read_list(
-        plane,
-        table,
-        sheet,
-        &quads[0..8 * n],
-        &mut rows,
-        &mut corners,
-    ) {
-        Listed::Refused(number) => refused(number),
-        Listed::Done(total) => report(b":", rows_own(&rows, &corners, total, sheet.id, quad)),
-    }
-}
-
 fn refused(number: u8) {
     say(b" refused by ", number as u64);
     io::write_all(STDOUT_FILENO, b"\n");
 }
 
-fn lists_of(plane: &mut [u8], table: &[u64], sheet: Sheet) {
+// Prints how many rows of a list are right, or the refusal's number.
+fn listed(plane: &[u8], table: &[u64], sheet: Sheet, quad: Quad, quads: &[f32]) {
+    let mut rows = [9u64; 3075];
+    let mut corners = [9.0f32; 8200];
+    match read_list(plane, table, sheet, quads, &mut rows, &mut corners) {
+        Listed::Refused(number) => refused(number),
+        Listed::Done(total) => report(b":", rows_own(&rows, &corners, total, sheet.id, quad)),
+    }
+}
+
+fn list_of(plane: &[u8], table: &[u64], sheet: Sheet, quad: Quad, count: usize) {
+    let mut quads = [0.0f32; 8200];
+    let n = least(count, 1025);
+    put_starts(&mut quads, quad);
+    say(b"  list of ", n as u64);
+    listed(plane, table, sheet, quad, &quads[0..8 * n]);
+}
+
+// The lengths of the lists.
+const COUNTS: [usize; 5] = [0, 1, 1023, 1024, 1025];
+
+fn five_lists(plane: &[u8], table: &[u64], sheet: Sheet, quad: Quad) {
+    let mut i = 0;
+    while i < 5 {
+        list_of(plane, table, sheet, quad, COUNTS[i]);
+        i += 1;
+    }
+}
+
+fn painted_lists(plane: &mut [u8], table: &[u64], sheet: Sheet) {
     match paint(plane, sheet) {
         Painted::Refused(number) => refused(number),
-        Painted::Tag(quad) => {
-            list_of(plane, table, sheet, quad, 0);
-            list_of(plane, table, sheet, quad, 1);
-            list_of(plane, table, sheet, quad, 1023);
-            list_of(plane, table, sheet, quad, 1024);
-            list_of(plane, table, sheet, quad, 1025);
-        }
+        Painted::Tag(quad) => five_lists(plane, table, sheet, quad),
     }
 }
 
@@ -99,5 +102,5 @@ fn lists_of(plane: &mut [u8], table: &[u64], sheet: Sheet) {
 pub fn all(plane: &mut [u8], table: &[u64], number: u8) {
     let sheet = sheet_of(number, 7, 2, 1, 0);
     let n = product(sheet.wide, sheet.wide, plane.len());
-    lists_of(&mut plane[0..n], table, sheet);
+    painted_lists(&mut plane[0..n], table, sheet);
 }

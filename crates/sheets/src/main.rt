@@ -10,6 +10,7 @@ use libc::STDOUT_FILENO;
 use muosleap::detector::Likeness;
 use muosleap::detector::check_likeness;
 use vectors::Tally;
+use vectors::report;
 
 // As many bytes as the largest plane has: a tag of side 10 in cells of 64, and one pixel more.
 fn canvas() -> [u8; 410881] {
@@ -24,53 +25,43 @@ fn likeness(table: &[u64], number: u8) -> Tally {
     }
 }
 
-fn every_code(plane: &mut [u8], table: &[u64], number: u8) -> Tally {
-    let a = kinds::all(plane, table, number, kinds::TURNS, 1, Tally::new());
-    let b = kinds::all(plane, table, number, kinds::TURNS, 2, a);
-    let c = kinds::all(plane, table, number, kinds::TURNS, 3, b);
-    let d = kinds::all(plane, table, number, kinds::TURNS, 10, c);
-    kinds::all(plane, table, number, kinds::TURNS, 64, d)
-}
-
-fn in_corners(plane: &mut [u8], table: &[u64], number: u8) -> Tally {
-    let a = kinds::all(plane, table, number, kinds::CORNERS, 1, Tally::new());
-    kinds::all(plane, table, number, kinds::CORNERS, 2, a)
-}
-
-fn line(name: &[u8], kind: &[u8], tally: Tally) {
-    io::write_all(STDOUT_FILENO, name);
-    vectors::report(kind, tally);
-}
-
-fn sheets(plane: &mut [u8], table: &[u64], number: u8, name: &[u8]) {
-    line(name, b" likeness:", likeness(table, number));
-    line(name, b" every code:", every_code(plane, table, number));
-    let misprinted = kinds::all(plane, table, number, kinds::MISPRINTS, 3, Tally::new());
-    line(name, b" misprinted:", misprinted);
-    line(
-        name,
-        b" in the plane's corners:",
-        in_corners(plane, table, number),
+// The lines of a table.
+fn sheets(plane: &mut [u8], table: &[u64], number: u8) {
+    report(b"  likeness:", likeness(table, number));
+    report(
+        b"  every code:",
+        kinds::all(plane, table, number, kinds::TURNS),
     );
-    if number % 5 == 0 {
-        lists::all(plane, table, number);
-    }
+    report(
+        b"  misprinted:",
+        kinds::all(plane, table, number, kinds::MISPRINTS),
+    );
+    report(
+        b"  in the plane's corners:",
+        kinds::all(plane, table, number, kinds::CORNERS),
+    );
 }
 
 fn with_table(plane: &mut [u8], number: u8, name: &[u8]) {
     let mut table = [0u64; 1024];
     let n = codes::count(number);
+    io::write_all(STDOUT_FILENO, name);
     codes::load(number, &mut table);
-    sheets(plane, &table[0..n], number, name);
+    sheets(plane, &table[0..n], number);
+    lists::all(plane, &table[0..n], number);
+}
+
+fn families(plane: &mut [u8]) {
+    with_table(plane, 0, b"T16H5\n");
+    with_table(plane, 1, b"T25H7\n");
+    with_table(plane, 2, b"T25H9\n");
+    with_table(plane, 3, b"T36H11\n");
+    with_table(plane, 4, b"T36H11B1\n");
 }
 
 fn main() {
     let mut plane = canvas();
-    with_table(&mut plane, 0, b"T16H5");
-    with_table(&mut plane, 1, b"T25H7");
-    with_table(&mut plane, 2, b"T25H9");
-    with_table(&mut plane, 3, b"T36H11");
-    with_table(&mut plane, 4, b"T36H11B1");
-    with_table(&mut plane, 5, b"own table of edge 8");
-    with_table(&mut plane, 6, b"own table of edge 3");
+    families(&mut plane);
+    with_table(&mut plane, 5, b"a table of edge 8\n");
+    with_table(&mut plane, 6, b"a table of edge 3\n");
 }

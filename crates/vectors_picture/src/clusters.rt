@@ -145,15 +145,20 @@ fn number_alike(frame: &[u8]) -> bool {
     )
 }
 
-// The digest with the total, the rows and the plane of one pattern.
+// The digest with the total, the rows and the plane after a call.
+fn taken(digest: u64, total: usize, rows: &[u64], plane: &[f32]) -> u64 {
+    let n = least(total, rows.len() / 3);
+    let d = vectors::digest_u16(digest, total as u64);
+    compare(b"", plane, compare_rows(b"", 0, &rows[0..3 * n], d).digest).digest
+}
+
+// The same for the plane of one pattern.
 fn with_pattern(digest: u64, pattern: u32, shape: Shape, plane: &mut [f32]) -> u64 {
     let mut worklist = [0u32; 49];
     let mut rows = [0u64; 48];
     floats::fill(floats::BITS, pattern as u64, b"", plane);
     let total = walk(plane, shape, -0.5, &mut worklist, &mut rows).total;
-    let n = least(total, 16);
-    let d = vectors::digest_u16(digest, total as u64);
-    compare(b"", plane, compare_rows(b"", 0, &rows[0..3 * n], d).digest).digest
+    taken(digest, total, &rows, plane)
 }
 
 // The digest of the patterns below `count`.

@@ -144,6 +144,13 @@ fn number_of(answer: Filled) -> u8 {
     }
 }
 
+fn lowest(response: &[f32], shape: Shape) -> u8 {
+    match response_threshold(response, shape) {
+        Threshold::At(_) => 0,
+        Threshold::Refused(number) => number,
+    }
+}
+
 // The number that an entry answers: 0 the blur, 1 the response, else the threshold.
 fn called(
     entry: u8,
@@ -156,10 +163,7 @@ fn called(
     match entry {
         0 => number_of(gaussian_blur_f32(img, shape, weights, temp, out)),
         1 => number_of(hessian_response(img, shape, out)),
-        _ => match response_threshold(img, shape) {
-            Threshold::At(_) => 0,
-            Threshold::Refused(number) => number,
-        },
+        _ => lowest(img, shape),
     }
 }
 
@@ -175,6 +179,12 @@ fn planes_alike(kind: u8, s: &[u8], n: usize, temp: &[f32], out: &[f32]) -> bool
     one.alike & both.alike
 }
 
+fn fill_inputs(frame: &[u8], call: Call, img: &mut [f32], weights: &mut [f32]) {
+    let s = rest(frame, call.img_at);
+    floats::fill(call.rule, u64_at(s, 0), s, img);
+    floats::fill(call.weights_rule, 0, rest(frame, call.weights_at), weights);
+}
+
 fn outputs_alike(
     kind: u8,
     frame: &[u8],
@@ -184,14 +194,12 @@ fn outputs_alike(
     temp: &mut [f32],
     out: &mut [f32],
 ) -> bool {
-    let s = rest(frame, call.img_at);
-    floats::fill(call.rule, u64_at(s, 0), s, img);
-    floats::fill(call.weights_rule, 0, rest(frame, call.weights_at), weights);
+    fill_inputs(frame, call, img, weights);
     let number = called(call.entry, img, call.shape, weights, temp, out);
     if kind == 6 {
         return number == u8_at(frame, 18);
     }
-    (number == 0) & planes_alike(kind, s, img.len(), temp, out)
+    (number == 0) & planes_alike(kind, rest(frame, call.img_at), img.len(), temp, out)
 }
 
 fn call_alike(kind: u8, frame: &[u8]) -> bool {

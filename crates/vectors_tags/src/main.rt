@@ -53,22 +53,30 @@ fn replay_file(flow: u8, name: &[u8]) {
 
 fn replay_words() {
     replay_file(WORDS, b"rotate_bits");
-    replay_file(WORDS, b"t16h5");
-    replay_file(WORDS, b"t25h7");
-    replay_file(WORDS, b"t25h9");
-    replay_file(WORDS, b"t36h11");
-    replay_file(WORDS, b"t36h11b1");
+    replay_families();
     replay_file(WORDS, b"lent");
     replay_file(WORDS, b"limits");
     replay_file(WORDS, b"likeness");
 }
 
-fn main() {
-    replay_words();
-    replay_file(LEVELS, b"bit_code");
+fn replay_families() {
+    replay_file(WORDS, b"t16h5");
+    replay_file(WORDS, b"t25h7");
+    replay_file(WORDS, b"t25h9");
+    replay_file(WORDS, b"t36h11");
+    replay_file(WORDS, b"t36h11b1");
+}
+
+fn replay_quads() {
     replay_file(QUADS, b"corners");
     replay_file(QUADS, b"readings");
     replay_file(QUADS, b"refusals");
+}
+
+fn main() {
+    replay_words();
+    replay_file(LEVELS, b"bit_code");
+    replay_quads();
     replay_file(PAINTER, b"paintings");
     replay_file(PAINTER, b"prints");
 }

@@ -49,17 +49,21 @@ fn painted_alike(s: &[u8], painted: Painted) -> bool {
     }
 }
 
-// The answer, and a digest of the plane afterwards.
-fn plane_alike(frame: &[u8], plane: &mut [u8]) -> bool {
-    let painted = paint_tag(
+fn painted(frame: &[u8], plane: &mut [u8]) -> Painted {
+    paint_tag(
         plane,
         refusals::packed_frame(u64_at(frame, 1) as usize, u64_at(frame, 9) as usize),
         u8_at(frame, 21),
         u8_at(frame, 22),
         u64_at(frame, 23),
         print_at(rest(frame, 31)),
-    );
-    painted_alike(rest(frame, 58), painted) & (digest_of(plane) == u64_at(frame, 59))
+    )
+}
+
+// The answer, and a digest of the plane afterwards.
+fn plane_alike(frame: &[u8], plane: &mut [u8]) -> bool {
+    let answer = painted(frame, plane);
+    painted_alike(rest(frame, 58), answer) & (digest_of(plane) == u64_at(frame, 59))
 }
 
 // The four starts, with 36 bytes each.

@@ -138,22 +138,36 @@ fn family_at(s: &[u8]) -> Family {
 }
 
 // Which number a call answers for one quad of a plane of equal bytes, with a table of equal codes.
-fn number_alike(frame: &[u8]) -> bool {
-    let pixels = [9u8; 4100];
-    let codes = [u64_at(frame, 22); 1025];
-    let n = length_at(frame, 17, 4100);
-    let count = length_at(frame, 30, 1025);
+fn number_alike(frame: &[u8], pixels: &[u8], codes: &[u64]) -> bool {
     let answer = answer_of(try_decode_quad(
-        &pixels[0..n],
+        pixels,
         refusals::packed_frame(u64_at(frame, 1) as usize, u64_at(frame, 9) as usize),
         family_at(rest(frame, 19)),
-        &codes[0..count],
+        codes,
         quad_at(rest(frame, 33)),
     ));
     answer.refusal == u8_at(frame, 32) as u64
 }
 
+fn quad_number_alike(frame: &[u8]) -> bool {
+    let pixels = [9u8; 4100];
+    let codes = [u64_at(frame, 22); 1025];
+    let n = length_at(frame, 17, 4100);
+    let count = length_at(frame, 30, 1025);
+    number_alike(frame, &pixels[0..n], &codes[0..count])
+}
+
 // The same for a list of quads that are one point of a plane of 4 x 4.
+fn listed(edge: u8, pixels: &[u8], quads: &[f32], rows: &mut [u64], corners: &mut [f32]) -> u8 {
+    let codes = [0u64; 1];
+    let family = Family {
+        edge,
+        border: 2,
+        hamming_distance: 1,
+    };
+    number_of(try_decode_quads(pixels, refusals::packed_frame(4, 4), family, &codes, quads, rows, corners))
+}
+
 fn list_number_alike(frame: &[u8]) -> bool {
     let pixels = [9u8; 16];
     let quads = [1.0f32; 8200];
@@ -163,21 +177,14 @@ fn list_number_alike(frame: &[u8]) -> bool {
     let a = length_at(frame, 5, 8200);
     let b = length_at(frame, 7, 3076);
     let c = length_at(frame, 9, 8201);
-    let family = Family {
-        edge: u8_at(frame, 4),
-        border: 2,
-        hamming_distance: 1,
-    };
-    let listed = try_decode_quads(
+    let number = listed(
+        u8_at(frame, 4),
         &pixels[0..n],
-        refusals::packed_frame(4, 4),
-        family,
-        &[0],
         &quads[0..a],
         &mut rows[0..b],
         &mut corners[0..c],
     );
-    number_of(listed) == u8_at(frame, 1)
+    number == u8_at(frame, 1)
 }
 
 pub fn alike(kind: u8, frame: &[u8], lent: &[u8]) -> bool {
@@ -185,7 +192,7 @@ pub fn alike(kind: u8, frame: &[u8], lent: &[u8]) -> bool {
         1 => quad_alike(frame, lent),
         2 => list_alike(frame, lent),
         3 => corners_alike(frame),
-        4 => number_alike(frame),
+        4 => quad_number_alike(frame),
         5 => list_number_alike(frame),
         _ => false,
     }

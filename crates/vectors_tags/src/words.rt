@@ -176,18 +176,21 @@ fn table_alike(kind: u8, frame: &[u8], table: Family, codes: &[u64]) -> bool {
     }
 }
 
+fn table_of(lent: &[u8]) -> Family {
+    Family {
+        edge: u8_at(lent, 1),
+        border: 0,
+        hamming_distance: u8_at(lent, 2),
+    }
+}
+
 pub fn alike(kind: u8, frame: &[u8], lent: &[u8]) -> bool {
     let mut codes = [0u64; 1025];
     if kind == 3 {
         return turn_alike(frame);
     }
-    let table = Family {
-        edge: u8_at(lent, 1),
-        border: 0,
-        hamming_distance: u8_at(lent, 2),
-    };
     let s = rest(lent, 3);
     let n = vectors::least(s.len() / 8, 1025);
     read_codes(s, &mut codes);
-    table_alike(kind, frame, table, &codes[0..n])
+    table_alike(kind, frame, table_of(lent), &codes[0..n])
 }

@@ -7,10 +7,10 @@ use Rattle.sheets.proofs.kinds.all.Statement.{statement}
 use Rattle.sheets.proofs.kinds.all.Tie as tie
 
 abbrev Inv-loop : tie.InvT-loop
-Inv-loop plane₀ table number kind cell sum₀ id₀ plane sum id = length plane ≡ length plane₀
+Inv-loop plane₀ table number kind sum₀ id₀ plane sum id = length plane ≡ length plane₀
 
 abbrev μ-loop : tie.MeasureT-loop
-μ-loop plane₀ table number kind cell sum₀ id₀ plane sum id = length table - id
+μ-loop plane₀ table number kind sum₀ id₀ plane sum id = length table - id
 
 pub all-spec : {M : Type 1} → statement M
 all-spec =
@@ -18,6 +18,7 @@ all-spec =
     (tie.spec
     Inv-loop
     μ-loop
+    (λ c κs. search needs)
     (λ c. search needs)
     (λ c κs. search needs)
     (λ c. search needs)

@@ -7,10 +7,10 @@ use Rattle.sheets.proofs.kinds.one_code.Statement.{statement}
 use Rattle.sheets.proofs.kinds.one_code.Tie as tie
 
 abbrev Inv-loop : tie.InvT-loop
-Inv-loop plane₀ table number kind cell id n sum₀ p₀ plane sum p = length plane ≡ length plane₀
+Inv-loop plane₀ table number kind id n sum₀ p₀ plane sum p = length plane ≡ length plane₀
 
 abbrev μ-loop : tie.MeasureT-loop
-μ-loop plane₀ table number kind cell id n sum₀ p₀ plane sum p = n - p
+μ-loop plane₀ table number kind id n sum₀ p₀ plane sum p = n - p
 
 pub one-code-spec : {M : Type 1} → statement M
 one-code-spec =
