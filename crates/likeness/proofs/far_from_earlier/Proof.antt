@@ -25,9 +25,6 @@ abbrev μ-loop : tie.MeasureT-loop
 loop-holds : tie.Need-loop-holds Inv-loop μ-loop
 loop-holds c = let a = c .before .args in (omega arith, sym (each-none (far-at (a .least) (a .t) (a .codes .now))))
 
-far-from-requires : tie.Need-far-from-requires Inv-loop μ-loop
-far-from-requires c κs = tt
-
 loop-again : tie.Need-loop-again Inv-loop μ-loop
 loop-again c =
     let l = c .before .before .before in
@@ -50,7 +47,7 @@ far-from-earlier-spec =
     loop-holds
     (λ c. omega arith)  -- mul-far-from
     (λ c. omega arith)  -- shared-slice-read-far-from
-    far-from-requires
+    (λ c κs. tt)  -- far-from-requires
     (λ c. omega arith)  -- add-j
     (λ c. omega arith)  -- loop-less
     loop-again

@@ -38,9 +38,6 @@ returns c = simp (ne-eqb (length (now (c .before .before .args .line))) 4 (c .if
 loop-holds : tie.Need-loop-holds Inv-loop μ-loop
 loop-holds c = (omega arith, omega arith, refl, refl)
 
-digit-requires : tie.Need-digit-requires Inv-loop μ-loop
-digit-requires c κs = tt
-
 returns-2 : tie.Need-returns-2 Inv-loop μ-loop
 unfolding isWord
 returns-2 c =
@@ -93,7 +90,7 @@ word-spec =
     returns
     loop-holds
     (λ c. omega arith)  -- shared-slice-read-digit
-    digit-requires
+    (λ c κs. tt)  -- digit-requires
     (λ c. search needs)  -- enum-known-d
     (λ c. search needs)  -- enum-told
     returns-2

@@ -38,9 +38,6 @@ abbrev μ-loop : tie.MeasureT-loop
 loop-holds : tie.Need-loop-holds Inv-loop μ-loop
 loop-holds c = (omega arith, refl)
 
-nearest-requires : tie.Need-nearest-requires Inv-loop μ-loop
-nearest-requires c κs = tt
-
 returns : tie.Need-returns Inv-loop μ-loop
 returns c =
     let l = c .before .before .before in
@@ -76,7 +73,7 @@ best-tag-spec =
     Inv-loop
     μ-loop
     loop-holds
-    nearest-requires
+    (λ c κs. tt)  -- nearest-requires
     returns
     rotate-bits-requires
     (λ c. omega arith)  -- add-turn

@@ -24,9 +24,6 @@ loop-holds : tie.Need-loop-holds Inv-loop μ-loop
 unfolding fewest
 loop-holds c = (omega arith, refl)
 
-differing-bits-requires : tie.Need-differing-bits-requires Inv-loop μ-loop
-differing-bits-requires c κs = tt
-
 cast-d : tie.Need-cast-d Inv-loop μ-loop
 cast-d c =
     let a = c .before .before .before .before .before .args in
@@ -73,7 +70,7 @@ fewest-bits-spec =
     loop-holds
     (λ c. omega arith)  -- mul-differing-bits
     (λ c. omega arith)  -- shared-slice-read-differing-bits
-    differing-bits-requires
+    (λ c κs. tt)  -- differing-bits-requires
     cast-d
     (λ c. omega arith)  -- add-i
     (λ c. omega arith)  -- loop-less

@@ -20,9 +20,6 @@ abbrev μ-loop : tie.MeasureT-loop
 loop-holds : tie.Need-loop-holds Inv-loop μ-loop
 loop-holds c = (omega arith, sym (zero-add _))
 
-differing-bits-requires : tie.Need-differing-bits-requires Inv-loop μ-loop
-differing-bits-requires c κs = tt
-
 cast-if1 : tie.Need-cast-if1 Inv-loop μ-loop
 cast-if1 c =
     let a = c .before .before .before .before .before .args in
@@ -57,7 +54,7 @@ first-with-spec =
     loop-holds
     (λ c. omega arith)  -- mul-differing-bits
     (λ c. omega arith)  -- shared-slice-read-differing-bits
-    differing-bits-requires
+    (λ c κs. tt)  -- differing-bits-requires
     cast-if1
     returns
     (λ c. omega arith)  -- add-i

@@ -32,9 +32,6 @@ loop-holds c = record { inside = omega arith; before = omega arith; least = refl
 sub-fewest-bits : tie.Need-sub-fewest-bits Inv-loop μ-loop
 sub-fewest-bits c = omega (arith, c .block-end .ensures .0)
 
-fewest-bits-requires : tie.Need-fewest-bits-requires Inv-loop μ-loop
-fewest-bits-requires c κs = tt
-
 -- a block more, from i to e, in which x is the fewest
 module _ (w : ℕ) (codes : List ℕ) (block d i e x : ℕ) (k : Kept w codes block d i) (from : i < e) (to : e ≤ length codes) (amount : x ≡ fewest w (take (e - i) (drop i codes))) where
   both : min d x ≡ fewest w (take e codes)
@@ -81,9 +78,6 @@ mul-first-with c = omega (arith, c .before .loop .inv .before, c .before .loop .
 sub-first-with : tie.Need-sub-first-with Inv-loop μ-loop
 sub-first-with c = omega (arith, c .before .loop .inv .before, c .before .loop .inv .inside)
 
-first-with-requires : tie.Need-first-with-requires Inv-loop μ-loop
-first-with-requires c κs = tt
-
 -- all codes are before i
 module _ (w : ℕ) (codes : List ℕ) (block d i first : ℕ) (k : Kept w codes block d i) (end : length codes ≤ i) (e : first ≡ firstAt w d (take (length codes - block) (drop block codes))) where
   at-last : d ≡ fewest w codes
@@ -123,7 +117,7 @@ nearest-spec =
     sub-fewest-bits
     (λ c. search needs)  -- part-fewest-bits-start
     (λ c. search needs)  -- part-fewest-bits-end
-    fewest-bits-requires
+    (λ c κs. tt)  -- fewest-bits-requires
     loop-less
     loop-again
     loop-less-2
@@ -132,6 +126,6 @@ nearest-spec =
     sub-first-with
     (λ c. search needs)  -- part-first-with-start
     (λ c. search needs)  -- part-first-with-end
-    first-with-requires
+    (λ c κs. tt)  -- first-with-requires
     add-id
     returns)
