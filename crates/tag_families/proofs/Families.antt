@@ -60,7 +60,7 @@ families-pass n known =
     ap (tested (familyOf n) (length (codesOf n))) (codes-all n known)
     ∙ by-family (λ (m : ℕ). tested (familyOf m) (length (codesOf m)) true ≡ false) refl refl refl refl refl n known
 
--- nor is a table refused that is a family's
+-- and so every table that is a family's
 pub table-passes : {n : ℕ} {family : Family} {codes : List ℕ} → n < 5 → family ≡ familyOf n → codes ≡ codesOf n → badTable family codes ≡ false
 table-passes {n} known e d = ap₂ badTable e d ∙ families-pass n known
 
