@@ -12,7 +12,8 @@ use Rattle.lists.proofs.All.{all-at}
 use Rattle.tables.specs.declared.Family.{Family}
 use Rattle.tables.specs.Table.{outside, badEdge, badBorder, inSquare, badTable}
 use Rattle.tag_families.specs.Codes.{t16h5, t25h7, t25h9, t36h11}
-use Rattle.tag_families.specs.Families.{familyOf, allCodes, codesOf}
+use Rattle.tag_families.specs.Families.{familyOf, codesOf}
+use Rattle.tag_families.specs.Part.{allCodes}
 
 -- "Every one of the 587 T36H11 codes is below 2^36, the T25 codes below 2^25, the T16H5 codes below 2^16."
 t16h5-all : all (inSquare 4) t16h5 ≡ true
@@ -60,7 +61,7 @@ families-pass n known =
     ap (tested (familyOf n) (length (codesOf n))) (codes-all n known)
     ∙ by-family (λ (m : ℕ). tested (familyOf m) (length (codesOf m)) true ≡ false) refl refl refl refl refl n known
 
--- nor is a table refused that is a family's
+-- and so every table that is a family's
 pub table-passes : {n : ℕ} {family : Family} {codes : List ℕ} → n < 5 → family ≡ familyOf n → codes ≡ codesOf n → badTable family codes ≡ false
 table-passes {n} known e d = ap₂ badTable e d ∙ families-pass n known
 

@@ -2,7 +2,7 @@
 -- T36H11 6, 2, 3; T36H11B1 6, 1, 3." Assumes nothing.
 use Prim.Native.Nat.{ℕ}
 use mathlib.Core.Bool.{Bool}
-use mathlib.Core.List.{List, [], _∷_, _++_}
+use mathlib.Core.List.{List, [], _∷_}
 use lib.Dec.{ltb}
 use lib.ListN.{getD}
 use Rattle.tables.specs.declared.Family.{Family}
@@ -21,10 +21,6 @@ families = family 4 2 1 ∷ family 5 2 2 ∷ family 5 2 2 ∷ family 6 2 3 ∷ f
 
 abbrev pub lists : List (List ℕ)
 lists = t16h5 ∷ t25h7 ∷ t25h9 ∷ t36h11 ∷ t36h11 ∷ []
-
--- the four lists one after another
-abbrev pub allCodes : List ℕ
-allCodes = t16h5 ++ (t25h7 ++ (t25h9 ++ t36h11))
 
 abbrev pub familyOf : ℕ → Family
 familyOf number = getD families number (family 0 0 0)

@@ -7,7 +7,8 @@ use tables::Family;
 ghost use mathlib.Core.Path.{_≡_};
 ghost use Prim.Native.Nat.{_*_, _^_, _<_};
 ghost use lib.ListN.{length, getD};
-ghost use Rattle.tag_families.specs.Families.{familyOf, allCodes, codesOf};
+ghost use Rattle.tag_families.specs.Families.{familyOf, codesOf};
+ghost use Rattle.tag_families.specs.Part.{allCodes};
 
 const FAMILIES: [Family; 5] = [
     Family {
