@@ -1,6 +1,6 @@
 -- Demand 3 of the definitions, carried to answers that equal them. Assumes nothing.
 use mathlib.Core.Path.{_≡_, refl, sym, ap, ap₂, _∙_}
-use mathlib.Core.List.{List, [], _∷_}
+use mathlib.Core.List.{List}
 use Prim.Native.Nat.{ℕ, zero, suc, _<_}
 use lib.Ieee.{Float}
 use native.Mathlib.Omega.{arith}
@@ -17,7 +17,6 @@ use Rattle.muosleap.specs.PaintTag.{Painting, paintTag}
 use Rattle.muosleap.specs.Quad.{decodeQuad}
 use Rattle.muosleap.specs.Quads.{decodeQuads}
 use Rattle.paper.specs.Starts.{fromStart}
-use Rattle.paper.specs.Demand3.{Passes, Painted, ownTag}
 use Rattle.paper.proofs.Demand3.{demand-3}
 use Rattle.demand3.specs.Said.{readPrint, PaintedThenRead, StartsRead, startNumbers, listPrint, StartsListed}
 

@@ -1,10 +1,10 @@
 -- A list reading, from 01's "Quad to tag" and refusal 16. Assumes nothing.
-use Prim.Native.Nat.{ℕ, _+_, _*_, _/_, _%_}
+use Prim.Native.Nat.{ℕ, _*_, _/_, _%_}
 use mathlib.Core.Bool.{Bool, not, _||_}
 use mathlib.Core.List.{List, [], _∷_, _++_, flatMap}
 use lib.Dec.{eqb, ltb}
-use lib.Ieee.{Float, nan, binary32, ofBits}
-use lib.ListN.{length, getD, take, drop, replicate}
+use lib.Ieee.{Float, binary32, ofBits}
+use lib.ListN.{length, take, drop, replicate}
 use Rattle.lists.specs.Tab.{tabulate}
 use Rattle.refusals.specs.Outcome.{Outcome, accepted, refused}
 use Rattle.refusals.specs.declared.Frame.{Frame}

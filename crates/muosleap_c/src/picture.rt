@@ -8,7 +8,7 @@ ghost use mathlib.Core.Path.{_≡_};
 ghost use lib.ListN.{length};
 ghost use Rattle.refusals.specs.Outcome.{number};
 ghost use Rattle.muosleap_picture.specs.ImageUtil.{gaussianBlur, hessianResponse, responseThreshold};
-ghost use Rattle.muosleap_picture.specs.SaddleClusters.{initSaddleClusters, WorklistKept};
+ghost use Rattle.muosleap_picture.specs.SaddleClusters.{initSaddleClusters};
 ghost use Rattle.muosleap_picture.specs.ClusterCenter.{clusterCenter};
 ghost use Rattle.muosleap_c.specs.Kept.{valueOr};
 ghost use Rattle.muosleap_c.specs.Picture.{sides, Blurred, Responded, Clustered, centerOr};

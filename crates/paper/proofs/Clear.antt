@@ -1,12 +1,12 @@
 -- A picture whose samples are clear reads as the word that they show. Assumes nothing.
-use mathlib.Core.Path.{_≡_, refl, sym, ap, _∙_}
+use mathlib.Core.Path.{_≡_, ap, _∙_}
 use mathlib.Core.Bool.{true, false}
 use mathlib.Core.List.{List}
 use Prim.Native.Nat.{ℕ, _-_, _*_, _^_, _≤_, _<_}
 use native.Mathlib.Nat.{mod-eq-of-lt, zero-lt-suc}
 use native.Mathlib.Omega.{arith}
 use lib.ListN.{length, getD}
-use Rattle.refusals.specs.Outcome.{Outcome, accepted}
+use Rattle.refusals.specs.Outcome.{accepted}
 use Rattle.refusals.specs.declared.Frame.{Frame}
 use Rattle.points.specs.declared.Quad.{Quad}
 use Rattle.points.specs.Turned.{answerCorners}
@@ -19,7 +19,6 @@ use Rattle.places.specs.Corners.{badCorners, cornersOutside}
 use Rattle.places.specs.Place.{axesOf}
 use Rattle.levels.specs.Levels.{leastOf, greatestOf, middleOf, codeOf}
 use Rattle.levels.proofs.Shades.{Clear, clear-code}
-use Rattle.search.specs.Search.{search}
 use Rattle.likeness.specs.Likeness.{likeness}
 use Rattle.likeness.proofs.Apart.{unlike}
 use Rattle.likeness.proofs.Reading.{near-read}

@@ -5,12 +5,10 @@ use mathlib.Core.List.{List}
 use Prim.Native.Nat.{ℕ, zero, suc, _+_, _-_, _*_, _/_, _%_, _≤_, _<_}
 use native.Mathlib.Nat.{div-add-mod', mul-comm}
 use native.Mathlib.Omega.{arith}
-use borrow.Author.Tests.{lt-leb, lt-ltb, eqb-true, eqb-false}
-use lib.Arith.{digits-lt, digits-div, digits-mod}
+use borrow.Author.Tests.{lt-leb, lt-ltb}
+use lib.Arith.{digits-div, digits-mod}
 use lib.Dec.{leb, ltb, eqb}
-use lib.Ieee.{Float}
-use lib.ListN.{length, getD}
-use Rattle.lists.specs.Each.{each}
+use lib.ListN.{length}
 use Rattle.lists.proofs.Bools.{or-neither}
 use Rattle.lists.proofs.Grid.{square-row, square-column}
 use Rattle.lists.proofs.Each.{each-of}
@@ -18,13 +16,13 @@ use Rattle.refusals.specs.Pixels.{levelAt}
 use Rattle.refusals.specs.declared.Frame.{Frame}
 use Rattle.points.specs.declared.Point.{Point}
 use Rattle.points.specs.declared.Quad.{Quad}
-use Rattle.points.specs.Turned.{turnedOnce, turnedLeft, anyCorner}
+use Rattle.points.specs.Turned.{turnedLeft, anyCorner}
 use Rattle.tables.specs.declared.Family.{Family}
 use Rattle.word.specs.Word.{bit, source}
-use Rattle.word.proofs.Turn.{source-lt, source-at}
-use Rattle.places.specs.Rounding.{badCoordinate, pixelOf, in1024ths}
+use Rattle.word.proofs.Turn.{source-lt}
+use Rattle.places.specs.Rounding.{badCoordinate, pixelOf}
 use Rattle.places.specs.Corners.{badCorner, badCorners, cornerOutside, cornersOutside}
-use Rattle.places.specs.Place.{axisOf, axesOf, modulePixel, samplePixel}
+use Rattle.places.specs.Place.{axisOf, axesOf, modulePixel}
 use Rattle.places.proofs.Painted.{HalfBefore, half-1024ths, half-pixel, half-good, painted-across, painted-down}
 use Rattle.places.proofs.Turned.{bad-turned, outside-turned}
 use Rattle.painter.specs.Corners.{halfBefore, outerCorners, printQuad}
@@ -36,7 +34,7 @@ use Rattle.painter.proofs.Half.{half-zero, half-suc}
 use Rattle.painter.proofs.Painted.{painted-middle}
 use Rattle.painter.proofs.Printable.{good-print, Good, cells-le}
 use Rattle.painter.proofs.Turned.{quarter-back, inset, module-shade, CellIn}
-use Rattle.reader.specs.Reading.{samples, column, row, sampleInside, samplesInside, levelsOf}
+use Rattle.reader.specs.Reading.{samples, column, row, sampleInside, samplesInside}
 use Rattle.reader.proofs.Starts.{column-turned, row-turned, inside-start}
 
 -- the painter's coordinate lies half a pixel before pixel n

@@ -2,7 +2,7 @@
 use mathlib.Core.Path.{_≡_, refl, sym, ap, ap₂, _∙_, subst}
 use mathlib.Core.Bool.{Bool, true, false, cond}
 use mathlib.Core.List.{List}
-use Prim.Native.Nat.{ℕ, _+_, _-_, _%_, _^_, _<_, _*_}
+use Prim.Native.Nat.{ℕ, _-_, _%_, _<_}
 use native.Mathlib.Nat.{zero-add}
 use native.Mathlib.Omega.{arith}
 use borrow.Author.Tests.{lt-ltb}
@@ -18,9 +18,7 @@ use Rattle.tables.specs.Table.{badTable}
 use Rattle.tables.specs.declared.Family.{Family}
 use Rattle.tag_families.specs.Families.{familyOf, codesOf}
 use Rattle.tag_families.proofs.Families.{families-pass}
-use Rattle.word.specs.Word.{differing}
 use Rattle.likeness.specs.Likeness.{likeness}
-use Rattle.likeness.specs.Start.{turnLess}
 use Rattle.painter.specs.Corners.{printQuad}
 use Rattle.painter.specs.Printable.{Printable}
 use Rattle.painter.specs.Tag.{painted}
@@ -38,7 +36,7 @@ use Rattle.muosleap.proofs.Order.{quad-1, quad-read}
 use Rattle.muosleap.proofs.ListReading.{accepted-means, in-is}
 use Rattle.muosleap.proofs.PaintTag.{paint-done, paint-accepted, paint-in}
 use Rattle.paper.specs.Starts.{fromStart}
-use Rattle.paper.specs.Demand3.{Passes, Painted, printOrder, ownTurn, ownTag, ReadsOwn, OtherStart, Demand3}
+use Rattle.paper.specs.Demand3.{Passes, Painted, printOrder, ownTag, ReadsOwn, OtherStart, Demand3}
 use Rattle.paper.proofs.Starts.{start-alike}
 use Rattle.paper.proofs.Clear.{Printed}
 use Rattle.paper.proofs.Painted.{painted-read}

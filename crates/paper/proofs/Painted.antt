@@ -8,8 +8,7 @@ use native.Mathlib.Nat.{not-suc-le-zero, le-of-suc-le-suc}
 use native.Mathlib.Omega.{arith}
 use lib.Dec.{eqb}
 use lib.ListN.{length, getD}
-use Rattle.lists.specs.Tab.{tabulate}
-use Rattle.lists.proofs.Tab.{length-tabulate, getD-tabulate}
+use Rattle.lists.proofs.Tab.{getD-tabulate}
 use Rattle.refusals.specs.Outcome.{accepted}
 use Rattle.refusals.specs.Pixels.{levelAt}
 use Rattle.refusals.specs.declared.Frame.{Frame}
@@ -17,15 +16,14 @@ use Rattle.points.specs.declared.Quad.{Quad}
 use Rattle.points.specs.Turned.{answerCorners}
 use Rattle.tables.specs.declared.Family.{Family}
 use Rattle.tables.proofs.Table.{good-table}
-use Rattle.word.specs.Word.{bit, word, differing, differingIn}
+use Rattle.word.specs.Word.{bit, word, differingIn}
 use Rattle.word.proofs.Bits.{bit-lt}
 use Rattle.word.proofs.Differing.{in-square}
-use Rattle.places.specs.declared.Axes.{Axes}
 use Rattle.places.specs.Place.{axesOf}
 use Rattle.levels.specs.Levels.{codeOf}
 use Rattle.levels.proofs.Extremes.{Level}
 use Rattle.levels.proofs.Shades.{Shade, shades-code}
-use Rattle.likeness.specs.Likeness.{ones, likeness}
+use Rattle.likeness.specs.Likeness.{ones}
 use Rattle.likeness.proofs.Apart.{Unlike, unlike}
 use Rattle.painter.specs.Corners.{printQuad}
 use Rattle.painter.specs.Printable.{Printable}

@@ -1,7 +1,6 @@
 -- Every row of the table holds: both sides compute to the same numbers. Assumes nothing.
 use mathlib.Core.Path.{_≡_, refl}
-use mathlib.Core.List.{List, [], _∷_, map}
-use Prim.Native.Nat.{ℕ}
+use mathlib.Core.List.{map}
 use Rattle.word.specs.Word.{turns}
 use lib.Ieee.{ofBits, toBits, add, sub, mul, neg, le, lt, isNan}
 use Rattle.lists.specs.Tab.{tabulate, all}

@@ -1,12 +1,11 @@
 -- Whatever the picture holds and whatever numbers make the quad, its four starts read alike, with a table that passes the
 -- likeness check. Assumes nothing.
-use mathlib.Core.Path.{_≡_, refl, sym, ap, ap₂, _∙_, subst}
+use mathlib.Core.Path.{_≡_, refl, sym, ap, _∙_, subst}
 use mathlib.Core.Bool.{Bool, true, false}
 use mathlib.Core.List.{List}
-use Prim.Native.Nat.{ℕ, _+_, _-_, _*_, _%_, _^_, _≤_, _<_}
+use Prim.Native.Nat.{ℕ, _+_, _-_, _%_, _^_, _<_}
 use native.Mathlib.Nat.{le-of-suc-le-suc}
 use native.Mathlib.Omega.{arith}
-use lib.ListN.{length}
 use Rattle.refusals.specs.Outcome.{Outcome, accepted, refused}
 use Rattle.refusals.specs.declared.Frame.{Frame}
 use Rattle.points.specs.declared.Quad.{Quad}
@@ -28,7 +27,7 @@ use Rattle.likeness.specs.Likeness.{likeness}
 use Rattle.likeness.specs.Start.{turnLess, seenFrom}
 use Rattle.likeness.proofs.Apart.{unlike}
 use Rattle.likeness.proofs.Reading.{turned-read}
-use Rattle.reader.specs.Reading.{samples, samplesInside, levelsOf, Tag, withCorners, tagOf, reading}
+use Rattle.reader.specs.Reading.{samples, samplesInside, levelsOf, withCorners, tagOf, reading}
 use Rattle.reader.proofs.Order.{reading-8, reading-9, reading-10, reading-on}
 use Rattle.reader.proofs.Starts.{inside-start, code-start, levels-size}
 use Rattle.paper.specs.Starts.{fromStart}

@@ -5,7 +5,7 @@ use mathlib.Core.List.{List}
 use Prim.Native.Nat.{ℕ, _-_, _%_, _<_}
 use lib.Ieee.{Float}
 use lib.ListN.{length, getD}
-use Rattle.refusals.specs.Outcome.{Outcome, accepted, Done}
+use Rattle.refusals.specs.Outcome.{accepted}
 use Rattle.refusals.specs.declared.Frame.{Frame}
 use Rattle.points.specs.declared.Quad.{Quad}
 use Rattle.points.specs.Turned.{turnedLeft}
@@ -15,9 +15,9 @@ use Rattle.tag_families.specs.Families.{familyOf, codesOf}
 use Rattle.word.specs.Word.{differing}
 use Rattle.painter.specs.declared.Print.{Print}
 use Rattle.reader.specs.Reading.{Tag}
-use Rattle.listing.specs.Listing.{Listing, rowOf, cornersOf, rowAt, butTurn}
+use Rattle.listing.specs.Listing.{rowOf, cornersOf, rowAt, butTurn}
 use Rattle.muosleap.specs.Likeness.{checkLikeness}
-use Rattle.muosleap.specs.PaintTag.{Painting, paintTag, paintTagIn}
+use Rattle.muosleap.specs.PaintTag.{paintTag, paintTagIn}
 use Rattle.muosleap.specs.Quad.{decodeQuad, decodeQuadIn}
 use Rattle.muosleap.specs.Quads.{decodeQuads, decodeQuadsIn}
 use Rattle.paper.specs.Starts.{fromStart}

@@ -1,8 +1,8 @@
 -- The four starts of a quad: their samples are the same, taken in another order, and their words are turns of each other. Assumes nothing.
-use mathlib.Core.Path.{_≡_, refl, sym, ap, ap₂, _∙_, subst}
-use mathlib.Core.Bool.{Bool, true, _&&_}
+use mathlib.Core.Path.{_≡_, refl, sym, ap, ap₂, _∙_}
+use mathlib.Core.Bool.{_&&_}
 use mathlib.Core.List.{List}
-use Prim.Native.Nat.{ℕ, zero, suc, _*_, _<_}
+use Prim.Native.Nat.{ℕ, zero, suc, _<_}
 use lib.Dec.{ltb}
 use lib.ListN.{length, getD}
 use Rattle.lists.proofs.Rows.{tabulate-ext}
@@ -19,7 +19,7 @@ use Rattle.points.specs.Turned.{turnedOnce, turnedLeft}
 use Rattle.tables.specs.declared.Family.{Family}
 use Rattle.word.specs.Word.{source, turn, turns}
 use Rattle.word.proofs.Turn.{source-lt, source-four, turns-turn}
-use Rattle.places.specs.Place.{axesOf, samplePixel}
+use Rattle.places.specs.Place.{axesOf}
 use Rattle.places.proofs.Turned.{sample-turned-x, sample-turned-y}
 use Rattle.levels.specs.Levels.{codeOf}
 use Rattle.levels.proofs.Cases.{onAccepted}

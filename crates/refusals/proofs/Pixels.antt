@@ -1,13 +1,13 @@
 -- The pixels of an 8-bit plane that refusal 1 lets through, and the bytes that they are. Assumes nothing.
 use mathlib.Core.Path.{_≡_}
 use mathlib.Core.Bool.{false}
-use Prim.Native.Nat.{ℕ, _+_, _*_, _<_, _≤_}
+use Prim.Native.Nat.{ℕ, _+_, _<_, _≤_}
 use native.Mathlib.Nat.{div-lt-iff-lt-mul, mod-lt, mul-comm, mul-le-mul-right, div-add-mod'}
 use native.Mathlib.Omega.{arith}
 use Rattle.lists.proofs.Grid.{row-of, column-of, next-row}
 use Rattle.refusals.specs.Pixels.{badFrame, placeOf, columnOf, rowOf, SmallFrame}
 use Rattle.refusals.specs.declared.Frame.{Frame}
-use Rattle.refusals.proofs.Plane.{Sides, Plane, good-plane}
+use Rattle.refusals.proofs.Plane.{Sides, good-plane}
 
 module _ (frame : Frame) where
   -- a pixel's column and row, from its byte

@@ -16,8 +16,6 @@ use vectors::u8_at;
 use vectors::u16_at;
 use vectors::u32_at;
 use vectors::u64_at;
-ghost use Prim.Native.Nat.{_≤_};
-ghost use lib.ListN.{length};
 
 // What rows hold before a call.
 const UNTOUCHED: u64 = 7;

@@ -165,7 +165,15 @@ fn listed(edge: u8, pixels: &[u8], quads: &[f32], rows: &mut [u64], corners: &mu
         border: 2,
         hamming_distance: 1,
     };
-    number_of(try_decode_quads(pixels, refusals::packed_frame(4, 4), family, &codes, quads, rows, corners))
+    number_of(try_decode_quads(
+        pixels,
+        refusals::packed_frame(4, 4),
+        family,
+        &codes,
+        quads,
+        rows,
+        corners,
+    ))
 }
 
 fn list_number_alike(frame: &[u8]) -> bool {

@@ -1,8 +1,5 @@
 // Frames of words: a turn, searches of the table that was lent, and that table held against a family or tried for likeness.
-ghost use mathlib.Core.Path.{_≡_};
-ghost use Prim.Native.Nat.{_<_, _≤_};
-ghost use lib.ListN.{length};
-ghost use Rattle.tag_families.specs.Families.{codesOf};
+ghost use Prim.Native.Nat.{_<_};
 use muosleap::detector::Likeness;
 use muosleap::detector::Turned;
 use muosleap::detector::best_tag;

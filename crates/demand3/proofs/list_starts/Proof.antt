@@ -20,27 +20,6 @@ painter2 c = c .before .before .before .before
 abbrev start : tie.After-paint-tag → tie.Start
 start p = p .before .before .before .before .before .before
 
-paint-tag-requires : tie.Need-paint-tag-requires
-paint-tag-requires c κs = search needs
-
-enum-known-painted : tie.Need-enum-known-painted
-enum-known-painted c = search needs
-
-enum-known-painted-2 : tie.Need-enum-known-painted-2
-enum-known-painted-2 c = search needs
-
-starts-of-requires : tie.Need-starts-of-requires
-starts-of-requires c κs = search needs
-
-slice-aggregate-try-decode-quads : tie.Need-slice-aggregate-try-decode-quads
-slice-aggregate-try-decode-quads c = search needs
-
-try-decode-quads-requires : tie.Need-try-decode-quads-requires
-try-decode-quads-requires c κs = search needs
-
-same-length : tie.Need-same-length
-same-length c = search needs
-
 returns : tie.Need-returns
 returns c =
     let t = c .before in
@@ -49,15 +28,6 @@ returns c =
     let left = p .paint-tag .last .0 in
     starts-listed (a .plane .now) (a .frame) (a .family) (a .codes .now) (a .word) (a .print) (a .rows .now) (a .corners .now) (paperPainted (p .paint-tag .result)) left _ (p .paint-tag .ensures)
     (sym (ap (λ (x : Painted). listPrint (a .frame) (a .family) (a .codes .now) (a .rows .now) (a .corners .now) left (paperPainted x)) (t .painted .given .1)))
-
-same-length-2 : tie.Need-same-length-2
-same-length-2 c = search needs
-
-same-length-3 : tie.Need-same-length-3
-same-length-3 c = search needs
-
-same-length-4 : tie.Need-same-length-4
-same-length-4 c = search needs
 
 returns-2 : tie.Need-returns-2
 returns-2 c =
@@ -76,15 +46,15 @@ pub list-starts-spec : {M : Type 1} → statement M
 list-starts-spec =
     tie.close
     (tie.spec
-    paint-tag-requires
-    enum-known-painted
-    enum-known-painted-2
-    starts-of-requires
-    slice-aggregate-try-decode-quads
-    try-decode-quads-requires
-    same-length
+    (λ c κs. search needs)  -- paint-tag-requires
+    (λ c. search needs)  -- enum-known-painted
+    (λ c. search needs)  -- enum-known-painted-2
+    (λ c κs. search needs)  -- starts-of-requires
+    (λ c. search needs)  -- slice-aggregate-try-decode-quads
+    (λ c κs. search needs)  -- try-decode-quads-requires
+    (λ c. search needs)  -- same-length
     returns
-    same-length-2
-    same-length-3
-    same-length-4
+    (λ c. search needs)  -- same-length-2
+    (λ c. search needs)  -- same-length-3
+    (λ c. search needs)  -- same-length-4
     returns-2)

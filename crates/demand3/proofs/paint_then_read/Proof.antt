@@ -10,24 +10,6 @@ use Rattle.demand3.proofs.Said.{painted-then-read}
 use Rattle.demand3.proofs.paint_then_read.Statement.{statement}
 use Rattle.demand3.proofs.paint_then_read.Tie as tie
 
-paint-tag-requires : tie.Need-paint-tag-requires
-paint-tag-requires c κs = search needs
-
-enum-known-painted : tie.Need-enum-known-painted
-enum-known-painted c = search needs
-
-enum-known-painted-2 : tie.Need-enum-known-painted-2
-enum-known-painted-2 c = search needs
-
-rotate-left-requires : tie.Need-rotate-left-requires
-rotate-left-requires c κs = search needs
-
-try-decode-quad-requires : tie.Need-try-decode-quad-requires
-try-decode-quad-requires c κs = search needs
-
-same-length : tie.Need-same-length
-same-length c = search needs
-
 returns : tie.Need-returns
 returns c =
     let p = c .before .before .before .before .before in
@@ -35,9 +17,6 @@ returns c =
     let left = p .paint-tag .last .0 in
     painted-then-read (a .plane .now) (a .frame) (a .family) (a .codes .now) (a .word) (a .print) (a .start) (paperPainted (p .paint-tag .result)) left _ (p .paint-tag .ensures)
     (sym (ap (λ (x : Painted). readPrint (a .frame) (a .family) (a .codes .now) (a .start) left (paperPainted x)) (c .before .painted .given .1)))
-
-same-length-2 : tie.Need-same-length-2
-same-length-2 c = search needs
 
 returns-2 : tie.Need-returns-2
 returns-2 c =
@@ -55,12 +34,12 @@ pub paint-then-read-spec : {M : Type 1} → statement M
 paint-then-read-spec =
     tie.close
     (tie.spec
-    paint-tag-requires
-    enum-known-painted
-    enum-known-painted-2
-    rotate-left-requires
-    try-decode-quad-requires
-    same-length
+    (λ c κs. search needs)  -- paint-tag-requires
+    (λ c. search needs)  -- enum-known-painted
+    (λ c. search needs)  -- enum-known-painted-2
+    (λ c κs. search needs)  -- rotate-left-requires
+    (λ c κs. search needs)  -- try-decode-quad-requires
+    (λ c. search needs)  -- same-length
     returns
-    same-length-2
+    (λ c. search needs)  -- same-length-2
     returns-2)

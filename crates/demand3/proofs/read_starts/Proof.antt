@@ -7,27 +7,6 @@ use Rattle.demand3.proofs.Said.{starts-read}
 use Rattle.demand3.proofs.read_starts.Statement.{statement}
 use Rattle.demand3.proofs.read_starts.Tie as tie
 
-rotate-left-requires : tie.Need-rotate-left-requires
-rotate-left-requires c κs = search needs
-
-rotate-left-requires-2 : tie.Need-rotate-left-requires-2
-rotate-left-requires-2 c κs = search needs
-
-rotate-left-requires-3 : tie.Need-rotate-left-requires-3
-rotate-left-requires-3 c κs = search needs
-
-try-decode-quad-requires : tie.Need-try-decode-quad-requires
-try-decode-quad-requires c κs = search needs
-
-try-decode-quad-requires-2 : tie.Need-try-decode-quad-requires-2
-try-decode-quad-requires-2 c κs = search needs
-
-try-decode-quad-requires-3 : tie.Need-try-decode-quad-requires-3
-try-decode-quad-requires-3 c κs = search needs
-
-try-decode-quad-requires-4 : tie.Need-try-decode-quad-requires-4
-try-decode-quad-requires-4 c κs = search needs
-
 returns : tie.Need-returns
 returns c =
     let d2 = c .before in
@@ -47,11 +26,11 @@ pub read-starts-spec : {M : Type 1} → statement M
 read-starts-spec =
     tie.close
     (tie.spec
-    rotate-left-requires
-    rotate-left-requires-2
-    rotate-left-requires-3
-    try-decode-quad-requires
-    try-decode-quad-requires-2
-    try-decode-quad-requires-3
-    try-decode-quad-requires-4
+    (λ c κs. search needs)  -- rotate-left-requires
+    (λ c κs. search needs)  -- rotate-left-requires-2
+    (λ c κs. search needs)  -- rotate-left-requires-3
+    (λ c κs. search needs)  -- try-decode-quad-requires
+    (λ c κs. search needs)  -- try-decode-quad-requires-2
+    (λ c κs. search needs)  -- try-decode-quad-requires-3
+    (λ c κs. search needs)  -- try-decode-quad-requires-4
     returns)

@@ -13,19 +13,19 @@ returns-2 : tie.Need-returns-2
 unfolding badList
 returns-2 c = simp (eq-eqb _ _ (c .before .if1 .left), lt-ltb _ _ (c .if2 .taken))
 
-mul-if3 : tie.Need-mul-if3
-mul-if3 c = search needs
-
 returns-3 : tie.Need-returns-3
 unfolding badList
 returns-3 c = simp (eq-eqb _ _ (c .before .before .if1 .left), le-ltb _ _ (c .before .if2 .left), lt-ltb _ _ (c .if3 .taken))
-
-mul-result : tie.Need-mul-result
-mul-result c = search needs
 
 returns-4 : tie.Need-returns-4
 unfolding badList
 returns-4 c = simp (eq-eqb _ _ (c .before .before .if1 .left), le-ltb _ _ (c .before .if2 .left), le-ltb _ _ (c .if3 .left))
 
 pub bad-list-spec : {M : Type 1} → statement M
-bad-list-spec = tie.close (tie.spec returns returns-2 mul-if3 returns-3 mul-result returns-4)
+bad-list-spec = tie.close (tie.spec
+    returns
+    returns-2
+    (λ c. search needs)  -- mul-if3
+    returns-3
+    (λ c. search needs)  -- mul-result
+    returns-4)

@@ -9,30 +9,12 @@ use Rattle.listing.specs.Listing.{cornersOf}
 use Rattle.listing.proofs.put_corners.Statement.{statement}
 use Rattle.listing.proofs.put_corners.Tie as tie
 
-enum-known-reading : tie.Need-enum-known-reading
-enum-known-reading c = search needs
-
-put-quad-requires : tie.Need-put-quad-requires
-put-quad-requires c κs = search needs
-
-enum-told : tie.Need-enum-told
-enum-told c = search needs
-
-put-quad-requires-2 : tie.Need-put-quad-requires-2
-put-quad-requires-2 c κs = search needs
-
-same-length : tie.Need-same-length
-same-length c = search needs
-
 returns : tie.Need-returns
 returns c =
     let k = c .before .before in
     let i = k .before .before .before in
     let a = i .before .before .before .args in
     k .put-quad .ensures ∙ sym (ap (λ (r : Reading). sets (a .corners .now) (8 * a .q) (cornersOf (paperReading r))) (i .reading .given .1))
-
-same-length-2 : tie.Need-same-length-2
-same-length-2 c = search needs
 
 returns-2 : tie.Need-returns-2
 returns-2 c =
@@ -45,11 +27,11 @@ pub put-corners-spec : {M : Type 1} → statement M
 put-corners-spec =
     tie.close
     (tie.spec
-    enum-known-reading
-    put-quad-requires
-    enum-told
-    put-quad-requires-2
-    same-length
+    (λ c. search needs)  -- enum-known-reading
+    (λ c κs. search needs)  -- put-quad-requires
+    (λ c. search needs)  -- enum-told
+    (λ c κs. search needs)  -- put-quad-requires-2
+    (λ c. search needs)  -- same-length
     returns
-    same-length-2
+    (λ c. search needs)  -- same-length-2
     returns-2)

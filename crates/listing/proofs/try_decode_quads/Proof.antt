@@ -33,9 +33,6 @@ loop-holds c =
     let f = read (a .plane .now) (a .frame) (a .family) (a .codes .now) (a .quads .now) in
     (omega arith, parts-none rowOf rowSize row-size f (a .rows .now), parts-none cornersOf quadSize corners-size f (a .corners .now), refl, refl)
 
-quad-at-requires : tie.Need-quad-at-requires Inv-loop μ-loop
-quad-at-requires c κs = omega arith
-
 try-decode-quad-requires : tie.Need-try-decode-quad-requires Inv-loop μ-loop
 try-decode-quad-requires c κs =
     let s = c .before .before .before .before .before .before .before .before in
@@ -106,7 +103,7 @@ try-decode-quads-spec =
     Inv-loop
     μ-loop
     loop-holds
-    quad-at-requires
+    (λ c κs. omega arith)  -- quad-at-requires
     try-decode-quad-requires
     put-row-requires
     put-corners-requires

@@ -12,26 +12,11 @@ use Rattle.listing.proofs.try_decode_quads_in.Tie as tie
 abbrev start : tie.After-codes-of → tie.Start
 start k = k .before .before .before .before .before .before .before
 
-family-requires : tie.Need-family-requires
-family-requires c κs = search needs
-
-slice-aggregate-codes-of : tie.Need-slice-aggregate-codes-of
-slice-aggregate-codes-of c = search needs
-
-codes-of-requires : tie.Need-codes-of-requires
-codes-of-requires c κs = search needs
-
 try-decode-quads-requires : tie.Need-try-decode-quads-requires
 try-decode-quads-requires c κs =
     let k = c .before .before in
     let s = start k in
     (s .pre .0, table-passes (s .pre .1) (k .before .before .family .ensures) (k .codes-of .ensures), s .pre .2)
-
-same-length : tie.Need-same-length
-same-length c = search needs
-
-same-length-2 : tie.Need-same-length-2
-same-length-2 c = search needs
 
 returns : tie.Need-returns
 returns c =
@@ -45,10 +30,10 @@ pub try-decode-quads-in-spec : {M : Type 1} → statement M
 try-decode-quads-in-spec =
     tie.close
     (tie.spec
-    family-requires
-    slice-aggregate-codes-of
-    codes-of-requires
+    (λ c κs. search needs)  -- family-requires
+    (λ c. search needs)  -- slice-aggregate-codes-of
+    (λ c κs. search needs)  -- codes-of-requires
     try-decode-quads-requires
-    same-length
-    same-length-2
+    (λ c. search needs)  -- same-length
+    (λ c. search needs)  -- same-length-2
     returns)

@@ -8,18 +8,6 @@ use Rattle.muosleap_c.specs.Kept.{idOr, turnOr}
 use Rattle.muosleap_c.proofs.muosleap_best_tag.Statement.{statement}
 use Rattle.muosleap_c.proofs.muosleap_best_tag.Tie as tie
 
-best-tag-requires : tie.Need-best-tag-requires
-best-tag-requires c κs = search needs
-
-enum-known-i : tie.Need-enum-known-i
-enum-known-i c = search needs
-
-enum-known-n : tie.Need-enum-known-n
-enum-known-n c = search needs
-
-cast-result : tie.Need-cast-result
-cast-result c = search needs
-
 returns : tie.Need-returns
 returns c =
     let k = c .before .before .before in
@@ -36,4 +24,10 @@ returns-2 c =
 
 pub muosleap-best-tag-spec : {M : Type 1} → statement M
 muosleap-best-tag-spec =
-    tie.close (tie.spec best-tag-requires enum-known-i enum-known-n cast-result returns returns-2)
+    tie.close (tie.spec
+    (λ c κs. search needs)  -- best-tag-requires
+    (λ c. search needs)  -- enum-known-i
+    (λ c. search needs)  -- enum-known-n
+    (λ c. search needs)  -- cast-result
+    returns
+    returns-2)

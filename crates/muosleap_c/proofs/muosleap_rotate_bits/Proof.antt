@@ -8,18 +8,6 @@ use Rattle.muosleap_c.specs.Kept.{valueOr}
 use Rattle.muosleap_c.proofs.muosleap_rotate_bits.Statement.{statement}
 use Rattle.muosleap_c.proofs.muosleap_rotate_bits.Tie as tie
 
-rotate-bits-requires : tie.Need-rotate-bits-requires
-rotate-bits-requires c κs = search needs
-
-enum-known-w : tie.Need-enum-known-w
-enum-known-w c = search needs
-
-enum-known-n : tie.Need-enum-known-n
-enum-known-n c = search needs
-
-cast-result : tie.Need-cast-result
-cast-result c = search needs
-
 returns : tie.Need-returns
 returns c =
     let k = c .before .before .before in
@@ -34,4 +22,10 @@ returns-2 c =
 
 pub muosleap-rotate-bits-spec : {M : Type 1} → statement M
 muosleap-rotate-bits-spec =
-    tie.close (tie.spec rotate-bits-requires enum-known-w enum-known-n cast-result returns returns-2)
+    tie.close (tie.spec
+    (λ c κs. search needs)  -- rotate-bits-requires
+    (λ c. search needs)  -- enum-known-w
+    (λ c. search needs)  -- enum-known-n
+    (λ c. search needs)  -- cast-result
+    returns
+    returns-2)

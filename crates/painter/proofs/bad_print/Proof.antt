@@ -22,12 +22,6 @@ one-word edge word = and-true (inSquare edge word)
 word-bad : (t : Bool) (edge word : ℕ) → t ≡ all (inSquare edge) (word ∷ []) → not t ≡ badWord edge word
 word-bad t edge word e = ap not (e ∙ one-word edge word)
 
-slice-aggregate-codes-fit : tie.Need-slice-aggregate-codes-fit
-slice-aggregate-codes-fit c = search needs
-
-codes-fit-requires : tie.Need-codes-fit-requires
-codes-fit-requires c κs = search needs
-
 -- what the test of the word says
 word-test : (c : tie.After-codes-fit) → let a = c .before .before .args in not (c .codes-fit .result) ≡ badWord (a .edge) (a .word)
 word-test c = let a = c .before .before .args in word-bad (c .codes-fit .result) (a .edge) (a .word) (c .codes-fit .ensures)
@@ -35,9 +29,6 @@ word-test c = let a = c .before .before .args in word-bad (c .codes-fit .result)
 returns : tie.Need-returns
 unfolding badPrint
 returns c = simp (sym (word-test (c .before)) ∙ c .if1 .taken)
-
-bad-style-requires : tie.Need-bad-style-requires
-bad-style-requires c κs = search needs
 
 returns-2 : tie.Need-returns-2
 unfolding badPrint
@@ -54,9 +45,6 @@ size-of-requires c κs =
     let p = good-style (a .print) (sym (c .before .bad-style .ensures) ∙ c .if2 .left) in
     omega (arith, size-le (a .edge) (a .border) (a .print) (e .most) (b .most) (p .small))
 
-ends-late-requires : tie.Need-ends-late-requires
-ends-late-requires c κs = search needs
-
 -- what the test of a side says
 late : (c : tie.After-ends-late) → let a = c .before .before .before .before .before .before .before .args in
     c .ends-late .result ≡ endsLate (a .frame .width) (a .print .x) (sizeOf (a .edge) (a .border) (a .print))
@@ -70,9 +58,6 @@ returns-3 c =
     let s = c .before .before .before in
     let w = s .before .before in
     simp (sym (word-test (w .before)) ∙ w .if1 .left, sym (s .before .bad-style .ensures) ∙ s .if2 .left, sym (late (c .before)) ∙ c .if3 .taken)
-
-ends-late-requires-2 : tie.Need-ends-late-requires-2
-ends-late-requires-2 c κs = search needs
 
 returns-4 : tie.Need-returns-4
 unfolding badPrint
@@ -89,13 +74,13 @@ pub bad-print-spec : {M : Type 1} → statement M
 bad-print-spec =
     tie.close
     (tie.spec
-    slice-aggregate-codes-fit
-    codes-fit-requires
+    (λ c. search needs)  -- slice-aggregate-codes-fit
+    (λ c κs. search needs)  -- codes-fit-requires
     returns
-    bad-style-requires
+    (λ c κs. search needs)  -- bad-style-requires
     returns-2
     size-of-requires
-    ends-late-requires
+    (λ c κs. search needs)  -- ends-late-requires
     returns-3
-    ends-late-requires-2
+    (λ c κs. search needs)  -- ends-late-requires-2
     returns-4)

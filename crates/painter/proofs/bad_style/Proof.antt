@@ -13,19 +13,17 @@ returns-2 c = simp (le-ltb _ _ (c .before .if1 .left), lt-ltb _ _ (c .if2 .taken
 returns-3 : tie.Need-returns-3
 returns-3 c = simp (le-ltb _ _ (c .before .before .if1 .left), le-ltb _ _ (c .before .if2 .left), lt-ltb _ _ (c .if3 .taken))
 
-cast-result : tie.Need-cast-result
-cast-result c = search needs
-
-cast-result-2 : tie.Need-cast-result-2
-cast-result-2 c = search needs
-
-add-result : tie.Need-add-result
-add-result c = search needs
-
 returns-4 : tie.Need-returns-4
 returns-4 c =
     let e = c .before .before in
     simp (le-ltb _ _ (e .before .before .if1 .left), le-ltb _ _ (e .before .if2 .left), le-ltb _ _ (e .if3 .left))
 
 pub bad-style-spec : {M : Type 1} → statement M
-bad-style-spec = tie.close (tie.spec returns returns-2 returns-3 cast-result cast-result-2 add-result returns-4)
+bad-style-spec = tie.close (tie.spec
+    returns
+    returns-2
+    returns-3
+    (λ c. search needs)  -- cast-result
+    (λ c. search needs)  -- cast-result-2
+    (λ c. search needs)  -- add-result
+    returns-4)

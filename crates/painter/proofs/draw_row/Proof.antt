@@ -19,9 +19,6 @@ Inv-loop plane₀ frame edge border word print row side cell y column₀ plane c
 abbrev μ-loop : tie.MeasureT-loop
 μ-loop plane₀ frame edge border word print row side cell y column₀ plane column = side - column
 
-side-of-requires : tie.Need-side-of-requires Inv-loop μ-loop
-side-of-requires c κs = tt
-
 mul-y : tie.Need-mul-y Inv-loop μ-loop
 mul-y c = let s = c .before .before in let i = cell-inside (s .pre .0) (s .args .row) (s .pre .1) in omega arith
 
@@ -62,12 +59,6 @@ fill-block-requires c κs =
     let s = l .before .before .before .before .before in
     (ap (λ (n : ℕ). badFrame n (s .args .frame)) (long (l .before)) ∙ s .pre .0 .planes, inside l .across, cell-inside (s .pre .0) (s .args .row) (s .pre .1) .down)
 
-add-column : tie.Need-add-column Inv-loop μ-loop
-add-column c = omega arith
-
-loop-less : tie.Need-loop-less Inv-loop μ-loop
-loop-less c = omega arith
-
 loop-again : tie.Need-loop-again Inv-loop μ-loop
 loop-again c =
     let f = c .before .before in
@@ -96,7 +87,7 @@ draw-row-spec =
     (tie.spec
     Inv-loop
     μ-loop
-    side-of-requires
+    (λ c κs. tt)  -- side-of-requires
     mul-y
     add-y
     loop-holds
@@ -104,8 +95,8 @@ draw-row-spec =
     mul-fill-block
     add-fill-block
     fill-block-requires
-    add-column
-    loop-less
+    (λ c. omega arith)  -- add-column
+    (λ c. omega arith)  -- loop-less
     loop-again
     same-length
     returns)

@@ -18,9 +18,6 @@ Inv-loop plane₀ frame edge border word print side row₀ plane row = (side ≡
 abbrev μ-loop : tie.MeasureT-loop
 μ-loop plane₀ frame edge border word print side row₀ plane row = side - row
 
-side-of-requires : tie.Need-side-of-requires Inv-loop μ-loop
-side-of-requires c κs = tt
-
 loop-holds : tie.Need-loop-holds Inv-loop μ-loop
 loop-holds c =
     let a = c .before .before .args in
@@ -41,12 +38,6 @@ draw-row-requires c κs =
       record { planes = ap (λ (n : ℕ). badFrame n (s .args .frame)) (long l) ∙ p .planes; edges = p .edges; borders = p .borders; prints = p .prints },
       omega arith,
     )
-
-add-row : tie.Need-add-row Inv-loop μ-loop
-add-row c = omega arith
-
-loop-less : tie.Need-loop-less Inv-loop μ-loop
-loop-less c = omega arith
 
 loop-again : tie.Need-loop-again Inv-loop μ-loop
 loop-again c =
@@ -75,11 +66,11 @@ draw-tag-spec =
     (tie.spec
     Inv-loop
     μ-loop
-    side-of-requires
+    (λ c κs. tt)  -- side-of-requires
     loop-holds
     draw-row-requires
-    add-row
-    loop-less
+    (λ c. omega arith)  -- add-row
+    (λ c. omega arith)  -- loop-less
     loop-again
     same-length
     returns)

@@ -18,11 +18,11 @@ late pixels at size h = go (leb (pixels - size) at) refl
 returns : tie.Need-returns
 returns c = let a = c .before .args in sym (lt-ltb (a .pixels) (a .at + a .size + 1) (omega arith))
 
-sub-result : tie.Need-sub-result
-sub-result c = omega arith
-
 returns-2 : tie.Need-returns-2
 returns-2 c = let a = c .before .args in late (a .pixels) (a .at) (a .size) (omega arith)
 
 pub ends-late-spec : {M : Type 1} → statement M
-ends-late-spec = tie.close (tie.spec returns sub-result returns-2)
+ends-late-spec = tie.close (tie.spec
+    returns
+    (λ c. omega arith)  -- sub-result
+    returns-2)

@@ -4,12 +4,6 @@ use borrow.Author.Needs.{needs}
 use Rattle.painter.proofs.fill.Statement.{statement}
 use Rattle.painter.proofs.fill.Tie as tie
 
-fill-block-requires : tie.Need-fill-block-requires
-fill-block-requires c κs = search needs
-
-same-length : tie.Need-same-length
-same-length c = search needs
-
 returns : tie.Need-returns
 returns c =
     let k = c .before .before in
@@ -18,4 +12,7 @@ returns c =
     whole-block (a .frame) (a .light) (a .plane .now) (k .fill-block .last .0) (s .pre) (k .fill-block .ensures)
 
 pub fill-spec : {M : Type 1} → statement M
-fill-spec = tie.close (tie.spec fill-block-requires same-length returns)
+fill-spec = tie.close (tie.spec
+    (λ c κs. search needs)  -- fill-block-requires
+    (λ c. search needs)  -- same-length
+    returns)

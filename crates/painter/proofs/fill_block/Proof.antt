@@ -19,9 +19,6 @@ abbrev μ-loop : tie.MeasureT-loop
 loop-holds : tie.Need-loop-holds Inv-loop μ-loop
 loop-holds c = let a = c .before .args in (omega arith, block-none (a .frame) (a .x) (a .y) (a .wide) (a .shade) (a .plane .now))
 
-add-place-of : tie.Need-add-place-of Inv-loop μ-loop
-add-place-of c = omega arith
-
 place-of-requires : tie.Need-place-of-requires Inv-loop μ-loop
 place-of-requires c κs =
     let g = good-frame (c .before .before .before .before .pre .0) in
@@ -34,12 +31,6 @@ fill-run-requires c κs =
     let l = c .before .before .before .loop in
     let inside = good-frame (s .pre .0) .run-inside (a .x) (a .y + l .i) (a .wide) (s .pre .1) (omega arith) in
     omega (arith, c .place-of .ensures, inside, ap length (l .inv .1) ∙ length-repainted (a .frame) (blockPixel (a .x) (a .y) (a .wide) (l .i) (a .shade)) (a .plane .now))
-
-add-i : tie.Need-add-i Inv-loop μ-loop
-add-i c = omega arith
-
-loop-less : tie.Need-loop-less Inv-loop μ-loop
-loop-less c = omega arith
 
 loop-again : tie.Need-loop-again Inv-loop μ-loop
 loop-again c =
@@ -70,11 +61,11 @@ fill-block-spec =
     Inv-loop
     μ-loop
     loop-holds
-    add-place-of
+    (λ c. omega arith)  -- add-place-of
     place-of-requires
     fill-run-requires
-    add-i
-    loop-less
+    (λ c. omega arith)  -- add-i
+    (λ c. omega arith)  -- loop-less
     loop-again
     same-length
     returns)

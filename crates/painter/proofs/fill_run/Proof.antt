@@ -18,20 +18,11 @@ abbrev μ-loop : tie.MeasureT-loop
 loop-holds : tie.Need-loop-holds Inv-loop μ-loop
 loop-holds c = (omega arith, run-none (c .args .start) (c .args .shade) (c .args .plane .now))
 
-add-plane : tie.Need-add-plane Inv-loop μ-loop
-add-plane c = omega arith
-
 slice-write-plane : tie.Need-slice-write-plane Inv-loop μ-loop
 slice-write-plane c =
     let a = c .before .before .args in
     let l = c .before .loop in
     omega (arith, ap length (l .inv .1) ∙ length-run (a .start) (a .shade) (a .plane .now) (l .i))
-
-add-i : tie.Need-add-i Inv-loop μ-loop
-add-i c = omega arith
-
-loop-less : tie.Need-loop-less Inv-loop μ-loop
-loop-less c = omega arith
 
 loop-again : tie.Need-loop-again Inv-loop μ-loop
 loop-again c =
@@ -58,4 +49,14 @@ returns c =
 pub fill-run-spec : {M : Type 1} → statement M
 fill-run-spec =
     tie.close
-    (tie.spec Inv-loop μ-loop loop-holds add-plane slice-write-plane add-i loop-less loop-again same-length returns)
+    (tie.spec
+    Inv-loop
+    μ-loop
+    loop-holds
+    (λ c. omega arith)  -- add-plane
+    slice-write-plane
+    (λ c. omega arith)  -- add-i
+    (λ c. omega arith)  -- loop-less
+    loop-again
+    same-length
+    returns)

@@ -15,9 +15,6 @@ returns c =
     let a = c .before .args in
     sym (row-dark (a .edge) (a .border) (a .word) (a .cell) (before-run (a .border) (a .edge) (a .cell .row) (c .if1 .taken)))
 
-add-if2 : tie.Need-add-if2
-add-if2 c = search needs
-
 returns-2 : tie.Need-returns-2
 returns-2 c =
     let a = c .before .before .args in
@@ -27,9 +24,6 @@ returns-3 : tie.Need-returns-3
 returns-3 c =
     let a = c .before .before .before .args in
     sym (column-dark (a .edge) (a .border) (a .word) (a .cell) (before-run (a .border) (a .edge) (a .cell .column) (c .if3 .taken)))
-
-add-if4 : tie.Need-add-if4
-add-if4 c = search needs
 
 returns-4 : tie.Need-returns-4
 returns-4 c =
@@ -73,10 +67,10 @@ is-light-spec =
     tie.close
     (tie.spec
     returns
-    add-if2
+    (λ c. search needs)  -- add-if2
     returns-2
     returns-3
-    add-if4
+    (λ c. search needs)  -- add-if4
     returns-4
     mul-place
     sub-place

@@ -12,30 +12,6 @@ use Rattle.painter.proofs.print_quad.Tie as tie
 corners : {l t r b l′ t′ r′ b′ : Float} → l ≡ l′ → t ≡ t′ → r ≡ r′ → b ≡ b′ → quadOf l t r b ≡ quadOf l′ t′ r′ b′
 corners p q u v = λ i. quadOf (p i) (q i) (u i) (v i)
 
-size-of-requires : tie.Need-size-of-requires
-size-of-requires c κs = search needs
-
-half-before-requires : tie.Need-half-before-requires
-half-before-requires c κs = search needs
-
-half-before-requires-2 : tie.Need-half-before-requires-2
-half-before-requires-2 c κs = search needs
-
-add-half-before : tie.Need-add-half-before
-add-half-before c = search needs
-
-half-before-requires-3 : tie.Need-half-before-requires-3
-half-before-requires-3 c κs = search needs
-
-add-half-before-2 : tie.Need-add-half-before-2
-add-half-before-2 c = search needs
-
-half-before-requires-4 : tie.Need-half-before-requires-4
-half-before-requires-4 c κs = search needs
-
-rotate-left-requires : tie.Need-rotate-left-requires
-rotate-left-requires c κs = search needs
-
 returns : tie.Need-returns
 returns c =
     let b = c .before in
@@ -57,12 +33,12 @@ pub print-quad-spec : {M : Type 1} → statement M
 print-quad-spec =
     tie.close
     (tie.spec
-    size-of-requires
-    half-before-requires
-    half-before-requires-2
-    add-half-before
-    half-before-requires-3
-    add-half-before-2
-    half-before-requires-4
-    rotate-left-requires
+    (λ c κs. search needs)  -- size-of-requires
+    (λ c κs. search needs)  -- half-before-requires
+    (λ c κs. search needs)  -- half-before-requires-2
+    (λ c. search needs)  -- add-half-before
+    (λ c κs. search needs)  -- half-before-requires-3
+    (λ c. search needs)  -- add-half-before-2
+    (λ c κs. search needs)  -- half-before-requires-4
+    (λ c κs. search needs)  -- rotate-left-requires
     returns)

@@ -7,15 +7,6 @@ use borrow.Author.Needs.{needs}
 use Rattle.painter.proofs.shade.Statement.{statement}
 use Rattle.painter.proofs.shade.Tie as tie
 
-side-of-requires : tie.Need-side-of-requires
-side-of-requires c κs = search needs
-
-turned-cell-requires : tie.Need-turned-cell-requires
-turned-cell-requires c κs = search needs
-
-is-light-requires : tie.Need-is-light-requires
-is-light-requires c κs = search needs
-
 -- the test is that of the picture's cell
 light : (c : tie.After-is-light) → let a = c .before .before .before .args in
     c .is-light .result ≡ isLight (a .edge) (a .border) (a .word) (turnedCell (sideOf (a .edge) (a .border)) (a .print .turn) (cellAt (a .row) (a .column)))
@@ -37,4 +28,9 @@ returns-2 c =
     ap (λ (t : Bool). cond t (a .print .light) (a .print .dark)) (sym (c .if1 .left) ∙ light (c .before))
 
 pub shade-spec : {M : Type 1} → statement M
-shade-spec = tie.close (tie.spec side-of-requires turned-cell-requires is-light-requires returns returns-2)
+shade-spec = tie.close (tie.spec
+    (λ c κs. search needs)  -- side-of-requires
+    (λ c κs. search needs)  -- turned-cell-requires
+    (λ c κs. search needs)  -- is-light-requires
+    returns
+    returns-2)

@@ -7,30 +7,6 @@ use Rattle.painter.specs.Tag.{cellAt, turnedCell}
 use Rattle.painter.proofs.turned_cell.Statement.{statement}
 use Rattle.painter.proofs.turned_cell.Tie as tie
 
-sub-t6 : tie.Need-sub-t6
-sub-t6 c = search needs
-
-sub-t7 : tie.Need-sub-t7
-sub-t7 c = search needs
-
-sub-t8 : tie.Need-sub-t8
-sub-t8 c = search needs
-
-sub-t9 : tie.Need-sub-t9
-sub-t9 c = search needs
-
-sub-t10 : tie.Need-sub-t10
-sub-t10 c = search needs
-
-sub-t11 : tie.Need-sub-t11
-sub-t11 c = search needs
-
-sub-t12 : tie.Need-sub-t12
-sub-t12 c = search needs
-
-sub-t13 : tie.Need-sub-t13
-sub-t13 c = search needs
-
 -- at the turn k
 at : (side turn k row column : ℕ) → turn ≡ k → turnedCell side k (cellAt row column) ≡ turnedCell side turn (cellAt row column)
 at side turn k row column e = ap (λ (t : ℕ). turnedCell side t (cellAt row column)) (sym e)
@@ -59,14 +35,14 @@ pub turned-cell-spec : {M : Type 1} → statement M
 turned-cell-spec =
     tie.close
     (tie.spec
-    sub-t6
-    sub-t7
-    sub-t8
-    sub-t9
-    sub-t10
-    sub-t11
-    sub-t12
-    sub-t13
+    (λ c. search needs)  -- sub-t6
+    (λ c. search needs)  -- sub-t7
+    (λ c. search needs)  -- sub-t8
+    (λ c. search needs)  -- sub-t9
+    (λ c. search needs)  -- sub-t10
+    (λ c. search needs)  -- sub-t11
+    (λ c. search needs)  -- sub-t12
+    (λ c. search needs)  -- sub-t13
     returns
     returns-2
     returns-3

@@ -5,14 +5,11 @@ use Rattle.points.specs.Turned.{reversed}
 use Rattle.points.proofs.answer_corners.Statement.{statement}
 use Rattle.points.proofs.answer_corners.Tie as tie
 
-rotate-left-requires : tie.Need-rotate-left-requires
-rotate-left-requires c κs = search needs
-
-reverse-requires : tie.Need-reverse-requires
-reverse-requires c κs = search needs
-
 returns : tie.Need-returns
 returns c = c .reverse .ensures ∙ ap reversed (c .before .rotate-left .ensures)
 
 pub answer-corners-spec : {M : Type 1} → statement M
-answer-corners-spec = tie.close (tie.spec rotate-left-requires reverse-requires returns)
+answer-corners-spec = tie.close (tie.spec
+    (λ c κs. search needs)  -- rotate-left-requires
+    (λ c κs. search needs)  -- reverse-requires
+    returns)

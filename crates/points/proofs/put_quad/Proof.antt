@@ -5,33 +5,6 @@ use Rattle.points.proofs.Numbers.{four-corners}
 use Rattle.points.proofs.put_quad.Statement.{statement}
 use Rattle.points.proofs.put_quad.Tie as tie
 
-mul-at : tie.Need-mul-at
-mul-at c = search needs
-
-put-point-requires : tie.Need-put-point-requires
-put-point-requires c κs = search needs
-
-add-put-point : tie.Need-add-put-point
-add-put-point c = search needs
-
-put-point-requires-2 : tie.Need-put-point-requires-2
-put-point-requires-2 c κs = search needs
-
-add-put-point-2 : tie.Need-add-put-point-2
-add-put-point-2 c = search needs
-
-put-point-requires-3 : tie.Need-put-point-requires-3
-put-point-requires-3 c κs = search needs
-
-add-put-point-3 : tie.Need-add-put-point-3
-add-put-point-3 c = search needs
-
-put-point-requires-4 : tie.Need-put-point-requires-4
-put-point-requires-4 c κs = search needs
-
-same-length : tie.Need-same-length
-same-length c = search needs
-
 returns : tie.Need-returns
 returns c =
     let p3 = c .before .before in
@@ -46,13 +19,13 @@ pub put-quad-spec : {M : Type 1} → statement M
 put-quad-spec =
     tie.close
     (tie.spec
-    mul-at
-    put-point-requires
-    add-put-point
-    put-point-requires-2
-    add-put-point-2
-    put-point-requires-3
-    add-put-point-3
-    put-point-requires-4
-    same-length
+    (λ c. search needs)  -- mul-at
+    (λ c κs. search needs)  -- put-point-requires
+    (λ c. search needs)  -- add-put-point
+    (λ c κs. search needs)  -- put-point-requires-2
+    (λ c. search needs)  -- add-put-point-2
+    (λ c κs. search needs)  -- put-point-requires-3
+    (λ c. search needs)  -- add-put-point-3
+    (λ c κs. search needs)  -- put-point-requires-4
+    (λ c. search needs)  -- same-length
     returns)

@@ -3,30 +3,6 @@ use borrow.Author.Needs.{needs}
 use Rattle.points.proofs.quad_at.Statement.{statement}
 use Rattle.points.proofs.quad_at.Tie as tie
 
-mul-at : tie.Need-mul-at
-mul-at c = search needs
-
-point-at-requires : tie.Need-point-at-requires
-point-at-requires c κs = search needs
-
-add-point-at : tie.Need-add-point-at
-add-point-at c = search needs
-
-point-at-requires-2 : tie.Need-point-at-requires-2
-point-at-requires-2 c κs = search needs
-
-add-point-at-2 : tie.Need-add-point-at-2
-add-point-at-2 c = search needs
-
-point-at-requires-3 : tie.Need-point-at-requires-3
-point-at-requires-3 c κs = search needs
-
-add-point-at-3 : tie.Need-add-point-at-3
-add-point-at-3 c = search needs
-
-point-at-requires-4 : tie.Need-point-at-requires-4
-point-at-requires-4 c κs = search needs
-
 returns : tie.Need-returns
 returns c =
     let q2 = c .before in
@@ -38,12 +14,12 @@ pub quad-at-spec : {M : Type 1} → statement M
 quad-at-spec =
     tie.close
     (tie.spec
-    mul-at
-    point-at-requires
-    add-point-at
-    point-at-requires-2
-    add-point-at-2
-    point-at-requires-3
-    add-point-at-3
-    point-at-requires-4
+    (λ c. search needs)  -- mul-at
+    (λ c κs. search needs)  -- point-at-requires
+    (λ c. search needs)  -- add-point-at
+    (λ c κs. search needs)  -- point-at-requires-2
+    (λ c. search needs)  -- add-point-at-2
+    (λ c κs. search needs)  -- point-at-requires-3
+    (λ c. search needs)  -- add-point-at-3
+    (λ c κs. search needs)  -- point-at-requires-4
     returns)

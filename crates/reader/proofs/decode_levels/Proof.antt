@@ -1,22 +1,10 @@
 -- The word of the levels, or their refusal. Assumes nothing.
-use mathlib.Core.Path.{_≡_, refl, sym, ap, _∙_}
+use mathlib.Core.Path.{sym, ap, _∙_}
 use borrow.Author.Needs.{needs}
 use Rattle.levels.specs.Bits.{paperBits}
 use Rattle.reader.specs.Reading.{tagOf}
 use Rattle.reader.proofs.decode_levels.Statement.{statement}
 use Rattle.reader.proofs.decode_levels.Tie as tie
-
-bit-code-requires : tie.Need-bit-code-requires
-bit-code-requires c κs = search needs
-
-enum-known-bits : tie.Need-enum-known-bits
-enum-known-bits c = search needs
-
-tag-of-requires : tie.Need-tag-of-requires
-tag-of-requires c κs = search needs
-
-enum-known-n : tie.Need-enum-known-n
-enum-known-n c = search needs
 
 returns : tie.Need-returns
 returns c =
@@ -35,4 +23,10 @@ returns-2 c =
 
 pub decode-levels-spec : {M : Type 1} → statement M
 decode-levels-spec =
-    tie.close (tie.spec bit-code-requires enum-known-bits tag-of-requires enum-known-n returns returns-2)
+    tie.close (tie.spec
+    (λ c κs. search needs)  -- bit-code-requires
+    (λ c. search needs)  -- enum-known-bits
+    (λ c κs. search needs)  -- tag-of-requires
+    (λ c. search needs)  -- enum-known-n
+    returns
+    returns-2)

@@ -11,36 +11,6 @@ use borrow.Author.Needs.{needs}
 use Rattle.reader.proofs.sample_at.Statement.{statement}
 use Rattle.reader.proofs.sample_at.Tie as tie
 
-cast-border : tie.Need-cast-border
-cast-border c = search needs
-
-cast-side : tie.Need-cast-side
-cast-side c = search needs
-
-mul-side : tie.Need-mul-side
-mul-side c = search needs
-
-add-side : tie.Need-add-side
-add-side c = search needs
-
-add-pixel : tie.Need-add-pixel
-add-pixel c = search needs
-
-add-pixel-2 : tie.Need-add-pixel-2
-add-pixel-2 c = search needs
-
-pixel-requires : tie.Need-pixel-requires
-pixel-requires c κs = search needs
-
-add-pixel-3 : tie.Need-add-pixel-3
-add-pixel-3 c = search needs
-
-add-pixel-4 : tie.Need-add-pixel-4
-add-pixel-4 c = search needs
-
-pixel-requires-2 : tie.Need-pixel-requires-2
-pixel-requires-2 c κs = search needs
-
 -- when both places are worked out
 module _ (q : tie.After-pixel2) where
   abbrev start : tie.Start
@@ -100,16 +70,16 @@ pub sample-at-spec : {M : Type 1} → statement M
 sample-at-spec =
     tie.close
     (tie.spec
-    cast-border
-    cast-side
-    mul-side
-    add-side
-    add-pixel
-    add-pixel-2
-    pixel-requires
-    add-pixel-3
-    add-pixel-4
-    pixel-requires-2
+    (λ c. search needs)  -- cast-border
+    (λ c. search needs)  -- cast-side
+    (λ c. search needs)  -- mul-side
+    (λ c. search needs)  -- add-side
+    (λ c. search needs)  -- add-pixel
+    (λ c. search needs)  -- add-pixel-2
+    (λ c κs. search needs)  -- pixel-requires
+    (λ c. search needs)  -- add-pixel-3
+    (λ c. search needs)  -- add-pixel-4
+    (λ c κs. search needs)  -- pixel-requires-2
     returns
     returns-2
     place-of-requires

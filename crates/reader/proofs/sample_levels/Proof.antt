@@ -22,9 +22,6 @@ Inv-loop plane frame family axes levels₀ edge k₀ i₀ levels k i = (i ≤ ed
 abbrev μ-loop : tie.MeasureT-loop
 μ-loop plane frame family axes levels₀ edge k₀ i₀ levels k i = edge - i
 
-cast-edge : tie.Need-cast-edge Inv-loop2 μ-loop2 Inv-loop μ-loop
-cast-edge c = search needs
-
 loop-holds : tie.Need-loop-holds Inv-loop2 μ-loop2 Inv-loop μ-loop
 loop-holds c =
     let s = c .before .before .before in
@@ -38,12 +35,6 @@ sample-at-requires : tie.Need-sample-at-requires Inv-loop2 μ-loop2 Inv-loop μ-
 sample-at-requires c κs =
     let s = c .before .before .before .before .before .before .before in
     (s .pre .0, s .pre .1, omega arith, omega arith)
-
-enum-known-level : tie.Need-enum-known-level Inv-loop2 μ-loop2 Inv-loop μ-loop
-enum-known-level c = search needs
-
-enum-told : tie.Need-enum-told Inv-loop2 μ-loop2 Inv-loop μ-loop
-enum-told c = search needs
 
 same-length : tie.Need-same-length Inv-loop2 μ-loop2 Inv-loop μ-loop
 same-length c =
@@ -72,12 +63,6 @@ add-k c =
     let a = l .before .before .before .before .before .before .args in
     omega (arith, place-in (a .family .edge) (l .before .before .loop .i) (l .loop2 .j) (l .loop2 .k) (omega arith) (omega arith) (omega arith) (l .loop2 .inv .1) .1)
 
-add-j : tie.Need-add-j Inv-loop2 μ-loop2 Inv-loop μ-loop
-add-j c = omega arith
-
-loop2-less : tie.Need-loop2-less Inv-loop2 μ-loop2 Inv-loop μ-loop
-loop2-less c = omega arith
-
 loop2-again : tie.Need-loop2-again Inv-loop2 μ-loop2 Inv-loop μ-loop
 loop2-again c =
     let m = c .before .before .before in
@@ -90,12 +75,6 @@ loop2-again c =
           (place-in (a .family .edge) (l .before .before .loop .i) (l .loop2 .j) (l .loop2 .k) (omega arith) (omega arith) (omega arith) e .1)
           (sym (c .before .level .given .1) ∙ m .sample-at .ensures ∙ ap (sampleOf (a .plane .now) (a .frame) (a .family) (a .axes)) (sym e)) (l .loop2 .inv .2),
     )
-
-add-i : tie.Need-add-i Inv-loop2 μ-loop2 Inv-loop μ-loop
-add-i c = omega arith
-
-loop-less : tie.Need-loop-less Inv-loop2 μ-loop2 Inv-loop μ-loop
-loop-less c = omega arith
 
 loop-again : tie.Need-loop-again Inv-loop2 μ-loop2 Inv-loop μ-loop
 loop-again c =
@@ -126,21 +105,21 @@ sample-levels-spec =
     μ-loop2
     Inv-loop
     μ-loop
-    cast-edge
+    (λ c. search needs)  -- cast-edge
     loop-holds
     loop2-holds
     sample-at-requires
-    enum-known-level
-    enum-told
+    (λ c. search needs)  -- enum-known-level
+    (λ c. search needs)  -- enum-told
     same-length
     returns
     slice-write-levels
     add-k
-    add-j
-    loop2-less
+    (λ c. omega arith)  -- add-j
+    (λ c. omega arith)  -- loop2-less
     loop2-again
-    add-i
-    loop-less
+    (λ c. omega arith)  -- add-i
+    (λ c. omega arith)  -- loop-less
     loop-again
     same-length-2
     returns-2)

@@ -1,6 +1,5 @@
 -- The search's outcome, with the corners. Assumes nothing.
-use mathlib.Core.Path.{_≡_, refl, sym, ap, _∙_}
-use Prim.Native.Nat.{ℕ}
+use mathlib.Core.Path.{sym, ap, _∙_}
 use borrow.Author.Needs.{needs}
 use Rattle.refusals.specs.Outcome.{accepted}
 use Rattle.points.specs.declared.Quad.{Quad}
@@ -8,18 +7,6 @@ use Rattle.search.specs.Answer.{paperFound}
 use Rattle.reader.specs.Reading.{withCorners, tagOf}
 use Rattle.reader.proofs.tag_of.Statement.{statement}
 use Rattle.reader.proofs.tag_of.Tie as tie
-
-best-tag-requires : tie.Need-best-tag-requires
-best-tag-requires c κs = search needs
-
-enum-known-id : tie.Need-enum-known-id
-enum-known-id c = search needs
-
-answer-corners-requires : tie.Need-answer-corners-requires
-answer-corners-requires c κs = search needs
-
-enum-known-n : tie.Need-enum-known-n
-enum-known-n c = search needs
 
 returns : tie.Need-returns
 unfolding tagOf
@@ -40,4 +27,10 @@ returns-2 c =
 
 pub tag-of-spec : {M : Type 1} → statement M
 tag-of-spec =
-    tie.close (tie.spec best-tag-requires enum-known-id answer-corners-requires enum-known-n returns returns-2)
+    tie.close (tie.spec
+    (λ c κs. search needs)  -- best-tag-requires
+    (λ c. search needs)  -- enum-known-id
+    (λ c κs. search needs)  -- answer-corners-requires
+    (λ c. search needs)  -- enum-known-n
+    returns
+    returns-2)

@@ -24,9 +24,6 @@ use Rattle.reader.proofs.try_decode_quad.Tie as tie
 small : (quad : Quad) (axes : Axes) → badCorners quad ≡ false → axes ≡ axesOf quad → SmallAxes axes
 small quad axes good e = subst SmallAxes (sym e) (let s = axes-small quad good in record { x-small = s .0; y-small = s .1 })
 
-bad-corners-requires : tie.Need-bad-corners-requires
-bad-corners-requires c κs = search needs
-
 returns : tie.Need-returns
 returns c =
     let b = c .before in
@@ -46,9 +43,6 @@ returns-2 c =
 
 axes-of-requires : tie.Need-axes-of-requires
 axes-of-requires c κs = let g = c .before .before in sym (g .before .bad-corners .ensures) ∙ g .if1 .left
-
-slice-aggregate-sample-levels : tie.Need-slice-aggregate-sample-levels
-slice-aggregate-sample-levels c = search needs
 
 sample-levels-requires : tie.Need-sample-levels-requires
 sample-levels-requires c κs =
@@ -73,12 +67,6 @@ returns-3 c =
     let a = b .before .before .before .args in
     sym (reading-10 (a .plane .now) (a .frame) (a .family) (a .codes .now) (a .quad) (sym (b .bad-corners .ensures) ∙ g .if1 .left) (sym (o .before .corners-outside .ensures) ∙ o .if2 .left)
     (inside-is (a .plane .now) (a .frame) (a .family) (x .axes-of .result) (axesOf (a .quad)) (w .sample-levels .result) false (w .sample-levels .last .1 .1 .1 .1 .0) (w .sample-levels .ensures) (x .axes-of .ensures) (not-true _ (c .if3 .taken))))
-
-cast-n : tie.Need-cast-n
-cast-n c = search needs
-
-cast-n-2 : tie.Need-cast-n-2
-cast-n-2 c = search needs
 
 mul-n : tie.Need-mul-n
 mul-n c =
@@ -136,16 +124,16 @@ pub try-decode-quad-spec : {M : Type 1} → statement M
 try-decode-quad-spec =
     tie.close
     (tie.spec
-    bad-corners-requires
+    (λ c κs. search needs)  -- bad-corners-requires
     returns
     corners-outside-requires
     returns-2
     axes-of-requires
-    slice-aggregate-sample-levels
+    (λ c. search needs)  -- slice-aggregate-sample-levels
     sample-levels-requires
     returns-3
-    cast-n
-    cast-n-2
+    (λ c. search needs)  -- cast-n
+    (λ c. search needs)  -- cast-n-2
     mul-n
     array-share-prefix-levels
     slice-aggregate-decode-levels

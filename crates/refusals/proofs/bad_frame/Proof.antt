@@ -4,12 +4,11 @@ use Rattle.refusals.specs.Pixels.{badFrame}
 use Rattle.refusals.proofs.bad_frame.Statement.{statement}
 use Rattle.refusals.proofs.bad_frame.Tie as tie
 
-bad-plane-requires : tie.Need-bad-plane-requires
-bad-plane-requires c κs = search needs
-
 returns : tie.Need-returns
 unfolding badFrame
 returns c = search needs
 
 pub bad-frame-spec : {M : Type 1} → statement M
-bad-frame-spec = tie.close (tie.spec bad-plane-requires returns)
+bad-frame-spec = tie.close (tie.spec
+    (λ c κs. search needs)  -- bad-plane-requires
+    returns)

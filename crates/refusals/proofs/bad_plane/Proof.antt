@@ -5,27 +5,21 @@ use Rattle.refusals.specs.Plane.{badPlane}
 use Rattle.refusals.proofs.Plane.{good-sides, few-samples}
 use Rattle.refusals.proofs.bad_plane.Statement.{statement}
 use Rattle.refusals.proofs.bad_plane.Tie as tie
-use Rattle.refusals.proofs.bad_plane.Reads as reads
-use Rattle.refusals.proofs.bad_plane.Lts as lts
-use Rattle.refusals.proofs.bad_sides.Reads as bad-sides-reads
 
--- src/lib.rt:37:8
-bad-sides-requires : tie.Need-bad-sides-requires
-bad-sides-requires c κs = search needs
-
--- src/lib.rt:38:9
 returns : tie.Need-returns
 unfolding badPlane
 returns c = simp (sym (c .before .bad-sides .ensures) ∙ c .if1 .taken)
 
--- src/lib.rt:40:12
 mul-result : tie.Need-mul-result
 mul-result c = omega (arith, few-samples (good-sides (sym (c .before .bad-sides .ensures) ∙ c .if1 .left)))
 
--- src/lib.rt:34:1
 returns-2 : tie.Need-returns-2
 unfolding badPlane
 returns-2 c = simp (sym (c .before .bad-sides .ensures) ∙ c .if1 .left)
 
 pub bad-plane-spec : {M : Type 1} → statement M
-bad-plane-spec = tie.close (tie.spec bad-sides-requires returns mul-result returns-2)
+bad-plane-spec = tie.close (tie.spec
+    (λ c κs. search needs)  -- bad-sides-requires
+    returns
+    mul-result
+    returns-2)

@@ -2,25 +2,19 @@ use borrow.Author.Tests.{eq-eqb, ne-eqb, lt-ltb, le-ltb}
 use Rattle.refusals.specs.Plane.{badSides}
 use Rattle.refusals.proofs.bad_sides.Statement.{statement}
 use Rattle.refusals.proofs.bad_sides.Tie as tie
-use Rattle.refusals.proofs.bad_sides.Reads as reads
-use Rattle.refusals.proofs.bad_sides.Lts as lts
 
--- src/lib.rt:22:9
 returns : tie.Need-returns
 unfolding badSides
 returns c = simp (eq-eqb _ _ (c .if1 .taken))
 
--- src/lib.rt:25:9
 returns-2 : tie.Need-returns-2
 unfolding badSides
 returns-2 c = simp (ne-eqb _ _ (c .before .if1 .left), lt-ltb _ _ (c .if2 .taken))
 
--- src/lib.rt:28:9
 returns-3 : tie.Need-returns-3
 unfolding badSides
 returns-3 c = simp (ne-eqb _ _ (c .before .before .if1 .left), le-ltb _ _ (c .before .if2 .left), eq-eqb _ _ (c .if3 .taken))
 
--- src/lib.rt:18:1
 returns-4 : tie.Need-returns-4
 unfolding badSides
 returns-4 c = simp (ne-eqb _ _ (c .before .before .if1 .left), le-ltb _ _ (c .before .if2 .left), ne-eqb _ _ (c .if3 .left))

@@ -11,8 +11,9 @@ mul-result c = let p = c .before .pre in omega (arith, mul-le-mul (p .2) (p .0))
 add-result : tie.Need-add-result
 add-result c = let p = c .before .pre in omega (arith, mul-le-mul (p .2) (p .0))
 
-returns : tie.Need-returns
-returns c = search needs
-
 pub place-of-spec : {M : Type 1} → statement M
-place-of-spec = tie.close (tie.spec mul-result add-result returns)
+place-of-spec = tie.close (tie.spec
+    mul-result
+    add-result
+    (λ c. search needs)  -- returns
+    )

@@ -9,12 +9,6 @@ use Rattle.tag_families.proofs.Families.{code-below, counted, fits}
 use Rattle.tag_families.proofs.code.Statement.{statement}
 use Rattle.tag_families.proofs.code.Tie as tie
 
-slice-aggregate-codes-of : tie.Need-slice-aggregate-codes-of
-slice-aggregate-codes-of c = search needs
-
-codes-of-requires : tie.Need-codes-of-requires
-codes-of-requires c κs = search needs
-
 mul-result : tie.Need-mul-result
 mul-result c =
     let s = c .before .before in
@@ -33,8 +27,8 @@ pub code-spec : {M : Type 1} → statement M
 code-spec =
     tie.close
     (tie.spec
-    slice-aggregate-codes-of
-    codes-of-requires
+    (λ c. search needs)  -- slice-aggregate-codes-of
+    (λ c κs. search needs)  -- codes-of-requires
     mul-result
     shared-slice-read-result
     returns)

@@ -4,14 +4,11 @@ use Rattle.tag_families.proofs.Families.{counted}
 use Rattle.tag_families.proofs.code_count.Statement.{statement}
 use Rattle.tag_families.proofs.code_count.Tie as tie
 
-mul-result : tie.Need-mul-result
-mul-result c = search needs
-
-array-read-result : tie.Need-array-read-result
-array-read-result c = search needs
-
 returns : tie.Need-returns
 returns c = counted (c .args .number) (c .pre)
 
 pub code-count-spec : {M : Type 1} → statement M
-code-count-spec = tie.close (tie.spec mul-result array-read-result returns)
+code-count-spec = tie.close (tie.spec
+    (λ c. search needs)  -- mul-result
+    (λ c. search needs)  -- array-read-result
+    returns)

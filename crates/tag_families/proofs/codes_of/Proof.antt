@@ -9,29 +9,11 @@ use Rattle.tag_families.proofs.Families.{start, count, fits, part}
 use Rattle.tag_families.proofs.codes_of.Statement.{statement}
 use Rattle.tag_families.proofs.codes_of.Tie as tie
 
-mul-start : tie.Need-mul-start
-mul-start c = search needs
-
-array-read-start : tie.Need-array-read-start
-array-read-start c = search needs
-
-mul-end : tie.Need-mul-end
-mul-end c = search needs
-
-array-read-end : tie.Need-array-read-end
-array-read-end c = search needs
-
 add-end : tie.Need-add-end
 add-end c = omega (arith, fits (c .args .number) (c .pre .0))
 
 mul-result : tie.Need-mul-result
 mul-result c = omega (arith, fits (c .args .number) (c .pre .0))
-
-sub-result : tie.Need-sub-result
-sub-result c = search needs
-
-part-result-start : tie.Need-part-result-start
-part-result-start c = search needs
 
 part-result-end : tie.Need-part-result-end
 part-result-end c = omega (arith, fits (c .args .number) (c .pre .0), ap length (c .pre .1))
@@ -47,13 +29,13 @@ pub codes-of-spec : {M : Type 1} → statement M
 codes-of-spec =
     tie.close
     (tie.spec
-    mul-start
-    array-read-start
-    mul-end
-    array-read-end
+    (λ c. search needs)  -- mul-start
+    (λ c. search needs)  -- array-read-start
+    (λ c. search needs)  -- mul-end
+    (λ c. search needs)  -- array-read-end
     add-end
     mul-result
-    sub-result
-    part-result-start
+    (λ c. search needs)  -- sub-result
+    (λ c. search needs)  -- part-result-start
     part-result-end
     returns)

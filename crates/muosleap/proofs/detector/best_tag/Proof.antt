@@ -7,9 +7,6 @@ use Rattle.muosleap.specs.Codes.{bestTag}
 use Rattle.muosleap.proofs.detector.best_tag.Statement.{statement}
 use Rattle.muosleap.proofs.detector.best_tag.Tie as tie
 
-bad-codes-requires : tie.Need-bad-codes-requires
-bad-codes-requires c κs = search needs
-
 returns : tie.Need-returns
 unfolding bestTag
 returns c = simp (sym (c .before .bad-codes .ensures) ∙ c .if1 .taken)
@@ -25,4 +22,8 @@ unfolding bestTag
 returns-2 c = let e = c .before in simp (sym (e .before .bad-codes .ensures) ∙ e .if1 .left) (c .best-tag .ensures)
 
 pub best-tag-spec : {M : Type 1} → statement M
-best-tag-spec = tie.close (tie.spec bad-codes-requires returns best-tag-requires returns-2)
+best-tag-spec = tie.close (tie.spec
+    (λ c κs. search needs)  -- bad-codes-requires
+    returns
+    best-tag-requires
+    returns-2)

@@ -13,12 +13,13 @@ returns-2 : tie.Need-returns-2
 unfolding bitCode
 returns-2 c = simp (ne-eqb _ _ (c .before .if1 .left), lt-ltb _ _ (c .if2 .taken))
 
-bit-code-requires : tie.Need-bit-code-requires
-bit-code-requires c κs = search needs
-
 returns-3 : tie.Need-returns-3
 unfolding bitCode
 returns-3 c = simp (ne-eqb _ _ (c .before .before .if1 .left), le-ltb _ _ (c .before .if2 .left)) (c .bit-code .ensures)
 
 pub bit-code-spec : {M : Type 1} → statement M
-bit-code-spec = tie.close (tie.spec returns returns-2 bit-code-requires returns-3)
+bit-code-spec = tie.close (tie.spec
+    returns
+    returns-2
+    (λ c κs. search needs)  -- bit-code-requires
+    returns-3)

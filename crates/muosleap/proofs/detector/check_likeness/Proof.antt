@@ -1,15 +1,11 @@
 -- Refusal 6 first, then the check. Assumes nothing.
 use mathlib.Core.Path.{sym, _∙_}
-use mathlib.Core.Bool.{_||_}
 use borrow.Author.Needs.{needs}
 use Rattle.lists.proofs.Bools.{or-right}
 use Rattle.tables.specs.Table.{badBorder, badCodes, badTable}
 use Rattle.muosleap.specs.Likeness.{checkLikeness}
 use Rattle.muosleap.proofs.detector.check_likeness.Statement.{statement}
 use Rattle.muosleap.proofs.detector.check_likeness.Tie as tie
-
-bad-table-requires : tie.Need-bad-table-requires
-bad-table-requires c κs = search needs
 
 returns : tie.Need-returns
 unfolding checkLikeness
@@ -30,4 +26,9 @@ unfolding checkLikeness
 returns-3 c = let e = c .before .before in simp (sym (e .before .bad-table .ensures) ∙ e .if1 .left, sym (c .before .passes .ensures) ∙ c .if2 .left)
 
 pub check-likeness-spec : {M : Type 1} → statement M
-check-likeness-spec = tie.close (tie.spec bad-table-requires returns passes-requires returns-2 returns-3)
+check-likeness-spec = tie.close (tie.spec
+    (λ c κs. search needs)  -- bad-table-requires
+    returns
+    passes-requires
+    returns-2
+    returns-3)

@@ -8,9 +8,6 @@ use Rattle.muosleap.specs.Codes.{turned}
 use Rattle.muosleap.proofs.detector.rotate_bits.Statement.{statement}
 use Rattle.muosleap.proofs.detector.rotate_bits.Tie as tie
 
-bad-edge-requires : tie.Need-bad-edge-requires
-bad-edge-requires c κs = search needs
-
 returns : tie.Need-returns
 unfolding turned
 returns c = simp (sym (c .before .bad-edge .ensures) ∙ c .if1 .taken)
@@ -25,4 +22,8 @@ unfolding turned
 returns-2 c = let e = c .before in simp (sym (e .before .bad-edge .ensures) ∙ e .if1 .left) (ap accepted (c .rotate-bits .ensures))
 
 pub rotate-bits-spec : {M : Type 1} → statement M
-rotate-bits-spec = tie.close (tie.spec bad-edge-requires returns rotate-bits-requires returns-2)
+rotate-bits-spec = tie.close (tie.spec
+    (λ c κs. search needs)  -- bad-edge-requires
+    returns
+    rotate-bits-requires
+    returns-2)

@@ -5,17 +5,11 @@ use Rattle.muosleap.proofs.Order.{quad-1, quad-6, quad-read}
 use Rattle.muosleap.proofs.detector.try_decode_quad.Statement.{statement}
 use Rattle.muosleap.proofs.detector.try_decode_quad.Tie as tie
 
-bad-frame-requires : tie.Need-bad-frame-requires
-bad-frame-requires c κs = search needs
-
 returns : tie.Need-returns
 returns c =
     let f = c .before in
     let a = f .before .before .before .args in
     sym (quad-1 (a .plane .now) (a .frame) (a .family) (a .codes .now) (a .quad) (sym (f .bad-frame .ensures) ∙ c .if1 .taken))
-
-bad-table-requires : tie.Need-bad-table-requires
-bad-table-requires c κs = search needs
 
 returns-2 : tie.Need-returns-2
 returns-2 c =
@@ -43,4 +37,10 @@ returns-3 c =
 
 pub try-decode-quad-spec : {M : Type 1} → statement M
 try-decode-quad-spec =
-    tie.close (tie.spec bad-frame-requires returns bad-table-requires returns-2 try-decode-quad-requires returns-3)
+    tie.close (tie.spec
+    (λ c κs. search needs)  -- bad-frame-requires
+    returns
+    (λ c κs. search needs)  -- bad-table-requires
+    returns-2
+    try-decode-quad-requires
+    returns-3)

@@ -6,9 +6,6 @@ use Rattle.muosleap.proofs.Order.{in-1, in-6, in-read}
 use Rattle.muosleap.proofs.detector.try_decode_quad_in.Statement.{statement}
 use Rattle.muosleap.proofs.detector.try_decode_quad_in.Tie as tie
 
-bad-frame-requires : tie.Need-bad-frame-requires
-bad-frame-requires c κs = search needs
-
 returns : tie.Need-returns
 returns c =
     let f = c .before in
@@ -21,15 +18,6 @@ returns-2 c =
     let f = e .before in
     let a = f .before .before .args in
     sym (in-6 (a .plane .now) (a .frame) (a .family) (a .quad) (sym (f .bad-frame .ensures) ∙ e .if1 .left) (c .if2 .taken))
-
-family-requires : tie.Need-family-requires
-family-requires c κs = search needs
-
-slice-aggregate-codes-of : tie.Need-slice-aggregate-codes-of
-slice-aggregate-codes-of c = search needs
-
-codes-of-requires : tie.Need-codes-of-requires
-codes-of-requires c κs = search needs
 
 try-decode-quad-requires : tie.Need-try-decode-quad-requires
 try-decode-quad-requires c κs =
@@ -52,11 +40,11 @@ pub try-decode-quad-in-spec : {M : Type 1} → statement M
 try-decode-quad-in-spec =
     tie.close
     (tie.spec
-    bad-frame-requires
+    (λ c κs. search needs)  -- bad-frame-requires
     returns
     returns-2
-    family-requires
-    slice-aggregate-codes-of
-    codes-of-requires
+    (λ c κs. search needs)  -- family-requires
+    (λ c. search needs)  -- slice-aggregate-codes-of
+    (λ c κs. search needs)  -- codes-of-requires
     try-decode-quad-requires
     returns-3)

@@ -13,24 +13,15 @@ use borrow.Author.Needs.{needs}
 use Rattle.muosleap.proofs.painting.paint_tag.Statement.{statement}
 use Rattle.muosleap.proofs.painting.paint_tag.Tie as tie
 
-bad-frame-requires : tie.Need-bad-frame-requires
-bad-frame-requires c κs = search needs
-
 returns : tie.Need-returns
 unfolding paintTag
 returns c = simp (sym (c .before .bad-frame .ensures) ∙ c .if1 .taken)
-
-bad-edge-requires : tie.Need-bad-edge-requires
-bad-edge-requires c κs = search needs
 
 returns-2 : tie.Need-returns-2
 unfolding paintTag
 returns-2 c =
     let f = c .before .before in
     simp (sym (f .before .bad-frame .ensures) ∙ f .if1 .left, sym (c .before .bad-edge .ensures) ∙ c .if2 .taken)
-
-bad-border-requires : tie.Need-bad-border-requires
-bad-border-requires c κs = search needs
 
 returns-3 : tie.Need-returns-3
 unfolding paintTag
@@ -88,9 +79,6 @@ print-quad-requires c κs =
     let g = good-print (printable q) in
     (omega (arith, g .placed .right, g .framed .sides .width-le), omega (arith, g .placed .low, g .framed .sides .height-le))
 
-same-length : tie.Need-same-length
-same-length c = search needs
-
 returns-5 : tie.Need-returns-5
 returns-5 c =
     let d = c .before .before .before in
@@ -104,16 +92,16 @@ pub paint-tag-spec : {M : Type 1} → statement M
 paint-tag-spec =
     tie.close
     (tie.spec
-    bad-frame-requires
+    (λ c κs. search needs)  -- bad-frame-requires
     returns
-    bad-edge-requires
+    (λ c κs. search needs)  -- bad-edge-requires
     returns-2
-    bad-border-requires
+    (λ c κs. search needs)  -- bad-border-requires
     returns-3
     bad-print-requires
     returns-4
     fill-requires
     draw-tag-requires
     print-quad-requires
-    same-length
+    (λ c. search needs)  -- same-length
     returns-5)

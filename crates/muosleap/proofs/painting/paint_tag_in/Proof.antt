@@ -8,9 +8,6 @@ use borrow.Author.Needs.{needs}
 use Rattle.muosleap.proofs.painting.paint_tag_in.Statement.{statement}
 use Rattle.muosleap.proofs.painting.paint_tag_in.Tie as tie
 
-bad-frame-requires : tie.Need-bad-frame-requires
-bad-frame-requires c κs = search needs
-
 returns : tie.Need-returns
 unfolding paintTagIn
 returns c = simp (sym (c .before .bad-frame .ensures) ∙ c .if1 .taken)
@@ -20,15 +17,6 @@ unfolding paintTagIn
 returns-2 c =
     let f = c .before in
     simp (sym (f .before .bad-frame .ensures) ∙ f .if1 .left, le-ltb (f .before .before .before .args .family) 5 (c .if2 .taken))
-
-family-requires : tie.Need-family-requires
-family-requires c κs = search needs
-
-paint-tag-requires : tie.Need-paint-tag-requires
-paint-tag-requires c κs = search needs
-
-same-length : tie.Need-same-length
-same-length c = search needs
 
 returns-3 : tie.Need-returns-3
 returns-3 c =
@@ -43,10 +31,10 @@ pub paint-tag-in-spec : {M : Type 1} → statement M
 paint-tag-in-spec =
     tie.close
     (tie.spec
-    bad-frame-requires
+    (λ c κs. search needs)  -- bad-frame-requires
     returns
     returns-2
-    family-requires
-    paint-tag-requires
-    same-length
+    (λ c κs. search needs)  -- family-requires
+    (λ c κs. search needs)  -- paint-tag-requires
+    (λ c. search needs)  -- same-length
     returns-3)

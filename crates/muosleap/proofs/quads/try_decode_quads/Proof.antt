@@ -40,22 +40,13 @@ passed-6 c = sym (c .before .bad-table .ensures) ∙ c .if2 .left
 passed-16 : (c : tie.Else3) → call (at-16 (c .before)) .test-16 ≡ false
 passed-16 c = sym (c .before .bad-list .ensures) ∙ c .if3 .left
 
-bad-frame-requires : tie.Need-bad-frame-requires
-bad-frame-requires c κs = search needs
-
 returns : tie.Need-returns
 unfolding decodeQuads
 returns c = tested-1 (call (at-1 (c .before))) (sym (c .before .bad-frame .ensures) ∙ c .if1 .taken)
 
-bad-table-requires : tie.Need-bad-table-requires
-bad-table-requires c κs = search needs
-
 returns-2 : tie.Need-returns-2
 unfolding decodeQuads
 returns-2 c = tested-6 (call (at-6 (c .before))) (passed-1 (c .before .before)) (sym (c .before .bad-table .ensures) ∙ c .if2 .taken)
-
-bad-list-requires : tie.Need-bad-list-requires
-bad-list-requires c κs = search needs
 
 returns-3 : tie.Need-returns-3
 unfolding decodeQuads
@@ -70,12 +61,6 @@ try-decode-quads-requires c κs =
     let t = l .before .before in
     (passed-1 (t .before .before), passed-6 t, passed-16 l)
 
-same-length : tie.Need-same-length
-same-length c = search needs
-
-same-length-2 : tie.Need-same-length-2
-same-length-2 c = search needs
-
 returns-4 : tie.Need-returns-4
 unfolding decodeQuads
 returns-4 c =
@@ -89,13 +74,13 @@ pub try-decode-quads-spec : {M : Type 1} → statement M
 try-decode-quads-spec =
     tie.close
     (tie.spec
-    bad-frame-requires
+    (λ c κs. search needs)  -- bad-frame-requires
     returns
-    bad-table-requires
+    (λ c κs. search needs)  -- bad-table-requires
     returns-2
-    bad-list-requires
+    (λ c κs. search needs)  -- bad-list-requires
     returns-3
     try-decode-quads-requires
-    same-length
-    same-length-2
+    (λ c. search needs)  -- same-length
+    (λ c. search needs)  -- same-length-2
     returns-4)

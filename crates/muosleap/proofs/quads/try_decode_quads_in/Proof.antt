@@ -38,9 +38,6 @@ passed-6 c = ap not (lt-ltb _ _ (c .if2 .left))
 passed-16 : (c : tie.Else3) → call (at-16 (c .before)) .test-16 ≡ false
 passed-16 c = sym (c .before .bad-list .ensures) ∙ c .if3 .left
 
-bad-frame-requires : tie.Need-bad-frame-requires
-bad-frame-requires c κs = search needs
-
 returns : tie.Need-returns
 unfolding decodeQuadsIn
 returns c = tested-1 (call (at-1 (c .before))) (sym (c .before .bad-frame .ensures) ∙ c .if1 .taken)
@@ -48,9 +45,6 @@ returns c = tested-1 (call (at-1 (c .before))) (sym (c .before .bad-frame .ensur
 returns-2 : tie.Need-returns-2
 unfolding decodeQuadsIn
 returns-2 c = tested-6 (call (at-1 (c .before .before))) (passed-1 (c .before)) (ap not (le-ltb _ _ (c .if2 .taken)))
-
-bad-list-requires : tie.Need-bad-list-requires
-bad-list-requires c κs = search needs
 
 returns-3 : tie.Need-returns-3
 unfolding decodeQuadsIn
@@ -65,12 +59,6 @@ try-decode-quads-in-requires c κs =
     let t = l .before .before in
     (passed-1 (t .before), t .if2 .left, passed-16 l)
 
-same-length : tie.Need-same-length
-same-length c = search needs
-
-same-length-2 : tie.Need-same-length-2
-same-length-2 c = search needs
-
 returns-4 : tie.Need-returns-4
 unfolding decodeQuadsIn
 returns-4 c =
@@ -84,12 +72,12 @@ pub try-decode-quads-in-spec : {M : Type 1} → statement M
 try-decode-quads-in-spec =
     tie.close
     (tie.spec
-    bad-frame-requires
+    (λ c κs. search needs)  -- bad-frame-requires
     returns
     returns-2
-    bad-list-requires
+    (λ c κs. search needs)  -- bad-list-requires
     returns-3
     try-decode-quads-in-requires
-    same-length
-    same-length-2
+    (λ c. search needs)  -- same-length
+    (λ c. search needs)  -- same-length-2
     returns-4)

@@ -8,18 +8,6 @@ use borrow.Author.Needs.{needs}
 use Rattle.muosleap_c.proofs.picture.muosleap_cluster_center.Statement.{statement}
 use Rattle.muosleap_c.proofs.picture.muosleap_cluster_center.Tie as tie
 
-cluster-center-requires : tie.Need-cluster-center-requires
-cluster-center-requires c κs = search needs
-
-enum-known-p : tie.Need-enum-known-p
-enum-known-p c = search needs
-
-enum-known-n : tie.Need-enum-known-n
-enum-known-n c = search needs
-
-cast-result : tie.Need-cast-result
-cast-result c = search needs
-
 returns : tie.Need-returns
 returns c =
     let k = c .before .before .before .before in
@@ -36,9 +24,9 @@ pub muosleap-cluster-center-spec : {M : Type 1} → statement M
 muosleap-cluster-center-spec =
     tie.close
     (tie.spec
-    cluster-center-requires
-    enum-known-p
-    enum-known-n
-    cast-result
+    (λ c κs. search needs)  -- cluster-center-requires
+    (λ c. search needs)  -- enum-known-p
+    (λ c. search needs)  -- enum-known-n
+    (λ c. search needs)  -- cast-result
     returns
     returns-2)

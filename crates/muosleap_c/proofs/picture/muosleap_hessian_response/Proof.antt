@@ -6,30 +6,12 @@ use borrow.Author.Needs.{needs}
 use Rattle.muosleap_c.proofs.picture.muosleap_hessian_response.Statement.{statement}
 use Rattle.muosleap_c.proofs.picture.muosleap_hessian_response.Tie as tie
 
-hessian-response-requires : tie.Need-hessian-response-requires
-hessian-response-requires c κs = search needs
-
-enum-told : tie.Need-enum-told
-enum-told c = search needs
-
-enum-known-n : tie.Need-enum-known-n
-enum-known-n c = search needs
-
-cast-result : tie.Need-cast-result
-cast-result c = search needs
-
-same-length : tie.Need-same-length
-same-length c = search needs
-
 returns : tie.Need-returns
 returns c =
     let k = c .before .before .before .before in
     let told = ap (λ f. number (paperFilled f)) (c .enum-told .given .1) in
     let e = k .hessian-response .ensures in
     (sym told ∙ ap (λ (d : AfterResponse). number (d .answer)) e, ap (λ (d : AfterResponse). d .out) e)
-
-same-length-2 : tie.Need-same-length-2
-same-length-2 c = search needs
 
 returns-2 : tie.Need-returns-2
 returns-2 c =
@@ -42,11 +24,11 @@ pub muosleap-hessian-response-spec : {M : Type 1} → statement M
 muosleap-hessian-response-spec =
     tie.close
     (tie.spec
-    hessian-response-requires
-    enum-told
-    enum-known-n
-    cast-result
-    same-length
+    (λ c κs. search needs)  -- hessian-response-requires
+    (λ c. search needs)  -- enum-told
+    (λ c. search needs)  -- enum-known-n
+    (λ c. search needs)  -- cast-result
+    (λ c. search needs)  -- same-length
     returns
-    same-length-2
+    (λ c. search needs)  -- same-length-2
     returns-2)

@@ -8,27 +8,6 @@ use borrow.Author.Needs.{needs}
 use Rattle.muosleap_c.proofs.picture.muosleap_init_saddle_clusters.Statement.{statement}
 use Rattle.muosleap_c.proofs.picture.muosleap_init_saddle_clusters.Tie as tie
 
-init-saddle-clusters-requires : tie.Need-init-saddle-clusters-requires
-init-saddle-clusters-requires c κs = search needs
-
-enum-known-n : tie.Need-enum-known-n
-enum-known-n c = search needs
-
-enum-known-n-2 : tie.Need-enum-known-n-2
-enum-known-n-2 c = search needs
-
-cast-result : tie.Need-cast-result
-cast-result c = search needs
-
-same-length : tie.Need-same-length
-same-length c = search needs
-
-same-length-2 : tie.Need-same-length-2
-same-length-2 c = search needs
-
-same-length-3 : tie.Need-same-length-3
-same-length-3 c = search needs
-
 returns : tie.Need-returns
 returns c =
     let k = c .before .before .before .before .before .before .before .before .before in
@@ -38,15 +17,6 @@ returns c =
     let b = k .before .before .before .before .before .before .before .args in
     let kept = subst (λ (d : Call). WorklistKept (d .answer) (now (b .worklist)) (k .init-saddle-clusters .last .1 .1 .1 .0)) (e .0) (e .1) in
     (ap number a, ap (λ (d : Call). d .plane) (e .0), kept, ap (λ (d : Call). d .rows) (e .0), ap (valueOr (now (b .total))) a)
-
-same-length-4 : tie.Need-same-length-4
-same-length-4 c = search needs
-
-same-length-5 : tie.Need-same-length-5
-same-length-5 c = search needs
-
-same-length-6 : tie.Need-same-length-6
-same-length-6 c = search needs
 
 returns-2 : tie.Need-returns-2
 returns-2 c =
@@ -62,15 +32,15 @@ pub muosleap-init-saddle-clusters-spec : {M : Type 1} → statement M
 muosleap-init-saddle-clusters-spec =
     tie.close
     (tie.spec
-    init-saddle-clusters-requires
-    enum-known-n
-    enum-known-n-2
-    cast-result
-    same-length
-    same-length-2
-    same-length-3
+    (λ c κs. search needs)  -- init-saddle-clusters-requires
+    (λ c. search needs)  -- enum-known-n
+    (λ c. search needs)  -- enum-known-n-2
+    (λ c. search needs)  -- cast-result
+    (λ c. search needs)  -- same-length
+    (λ c. search needs)  -- same-length-2
+    (λ c. search needs)  -- same-length-3
     returns
-    same-length-4
-    same-length-5
-    same-length-6
+    (λ c. search needs)  -- same-length-4
+    (λ c. search needs)  -- same-length-5
+    (λ c. search needs)  -- same-length-6
     returns-2)

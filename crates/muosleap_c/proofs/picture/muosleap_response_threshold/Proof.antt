@@ -8,18 +8,6 @@ use borrow.Author.Needs.{needs}
 use Rattle.muosleap_c.proofs.picture.muosleap_response_threshold.Statement.{statement}
 use Rattle.muosleap_c.proofs.picture.muosleap_response_threshold.Tie as tie
 
-response-threshold-requires : tie.Need-response-threshold-requires
-response-threshold-requires c κs = search needs
-
-enum-known-t : tie.Need-enum-known-t
-enum-known-t c = search needs
-
-enum-known-n : tie.Need-enum-known-n
-enum-known-n c = search needs
-
-cast-result : tie.Need-cast-result
-cast-result c = search needs
-
 returns : tie.Need-returns
 returns c =
     let k = c .before .before .before in
@@ -35,4 +23,10 @@ returns-2 c =
 pub muosleap-response-threshold-spec : {M : Type 1} → statement M
 muosleap-response-threshold-spec =
     tie.close
-    (tie.spec response-threshold-requires enum-known-t enum-known-n cast-result returns returns-2)
+    (tie.spec
+    (λ c κs. search needs)  -- response-threshold-requires
+    (λ c. search needs)  -- enum-known-t
+    (λ c. search needs)  -- enum-known-n
+    (λ c. search needs)  -- cast-result
+    returns
+    returns-2)

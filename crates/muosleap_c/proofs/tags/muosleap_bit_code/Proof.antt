@@ -8,18 +8,6 @@ use Rattle.muosleap_c.specs.Kept.{valueOr}
 use Rattle.muosleap_c.proofs.tags.muosleap_bit_code.Statement.{statement}
 use Rattle.muosleap_c.proofs.tags.muosleap_bit_code.Tie as tie
 
-bit-code-requires : tie.Need-bit-code-requires
-bit-code-requires c κs = search needs
-
-enum-known-w : tie.Need-enum-known-w
-enum-known-w c = search needs
-
-enum-known-n : tie.Need-enum-known-n
-enum-known-n c = search needs
-
-cast-result : tie.Need-cast-result
-cast-result c = search needs
-
 returns : tie.Need-returns
 returns c =
     let k = c .before .before .before in
@@ -34,4 +22,10 @@ returns-2 c =
 
 pub muosleap-bit-code-spec : {M : Type 1} → statement M
 muosleap-bit-code-spec =
-    tie.close (tie.spec bit-code-requires enum-known-w enum-known-n cast-result returns returns-2)
+    tie.close (tie.spec
+    (λ c κs. search needs)  -- bit-code-requires
+    (λ c. search needs)  -- enum-known-w
+    (λ c. search needs)  -- enum-known-n
+    (λ c. search needs)  -- cast-result
+    returns
+    returns-2)

@@ -6,18 +6,6 @@ use Rattle.muosleap.specs.Likeness.{paperLikeness}
 use Rattle.muosleap_c.proofs.tags.muosleap_check_likeness.Statement.{statement}
 use Rattle.muosleap_c.proofs.tags.muosleap_check_likeness.Tie as tie
 
-check-likeness-requires : tie.Need-check-likeness-requires
-check-likeness-requires c κs = search needs
-
-enum-told : tie.Need-enum-told
-enum-told c = search needs
-
-enum-known-n : tie.Need-enum-known-n
-enum-known-n c = search needs
-
-cast-result : tie.Need-cast-result
-cast-result c = search needs
-
 returns : tie.Need-returns
 returns c = sym (ap number (sym (c .before .before .check-likeness .ensures) ∙ ap paperLikeness (c .enum-told .given .1)))
 
@@ -26,4 +14,10 @@ returns-2 c = sym (ap number (sym (c .before .before .before .check-likeness .en
 
 pub muosleap-check-likeness-spec : {M : Type 1} → statement M
 muosleap-check-likeness-spec =
-    tie.close (tie.spec check-likeness-requires enum-told enum-known-n cast-result returns returns-2)
+    tie.close (tie.spec
+    (λ c κs. search needs)  -- check-likeness-requires
+    (λ c. search needs)  -- enum-told
+    (λ c. search needs)  -- enum-known-n
+    (λ c. search needs)  -- cast-result
+    returns
+    returns-2)

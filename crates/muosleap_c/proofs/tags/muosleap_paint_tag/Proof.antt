@@ -10,24 +10,6 @@ use Rattle.muosleap_c.proofs.Eight.{filled}
 use Rattle.muosleap_c.proofs.tags.muosleap_paint_tag.Statement.{statement}
 use Rattle.muosleap_c.proofs.tags.muosleap_paint_tag.Tie as tie
 
-paint-tag-requires : tie.Need-paint-tag-requires
-paint-tag-requires c κs = search needs
-
-enum-known-q : tie.Need-enum-known-q
-enum-known-q c = search needs
-
-put-quad-requires : tie.Need-put-quad-requires
-put-quad-requires c κs = search needs
-
-enum-known-n : tie.Need-enum-known-n
-enum-known-n c = search needs
-
-cast-result : tie.Need-cast-result
-cast-result c = search needs
-
-same-length : tie.Need-same-length
-same-length c = search needs
-
 returns : tie.Need-returns
 returns c =
     let k = c .before .before .before .before .before .before .before in
@@ -36,9 +18,6 @@ returns c =
     let e = ap (λ (p : Painting). p .answer) (sym left) ∙ ap paperPainted (c .before .before .before .q .given .1) in
     let eight : length (now (a .quad)) ≡ 8 = search needs in
     (sym (ap number e), ap (λ (p : Painting). p .plane) left, c .put-quad .ensures ∙ filled _ (now (a .quad)) eight ∙ sym (ap (quadOr (now (a .quad))) e))
-
-same-length-2 : tie.Need-same-length-2
-same-length-2 c = search needs
 
 returns-2 : tie.Need-returns-2
 returns-2 c =
@@ -52,12 +31,12 @@ pub muosleap-paint-tag-spec : {M : Type 1} → statement M
 muosleap-paint-tag-spec =
     tie.close
     (tie.spec
-    paint-tag-requires
-    enum-known-q
-    put-quad-requires
-    enum-known-n
-    cast-result
-    same-length
+    (λ c κs. search needs)  -- paint-tag-requires
+    (λ c. search needs)  -- enum-known-q
+    (λ c κs. search needs)  -- put-quad-requires
+    (λ c. search needs)  -- enum-known-n
+    (λ c. search needs)  -- cast-result
+    (λ c. search needs)  -- same-length
     returns
-    same-length-2
+    (λ c. search needs)  -- same-length-2
     returns-2)

@@ -12,24 +12,6 @@ use Rattle.muosleap_c.proofs.Eight.{filled}
 use Rattle.muosleap_c.proofs.tags.muosleap_try_decode_quad_in.Statement.{statement}
 use Rattle.muosleap_c.proofs.tags.muosleap_try_decode_quad_in.Tie as tie
 
-quad-at-requires : tie.Need-quad-at-requires
-quad-at-requires c κs = search needs
-
-try-decode-quad-in-requires : tie.Need-try-decode-quad-in-requires
-try-decode-quad-in-requires c κs = search needs
-
-enum-known-i : tie.Need-enum-known-i
-enum-known-i c = search needs
-
-put-quad-requires : tie.Need-put-quad-requires
-put-quad-requires c κs = search needs
-
-enum-known-n : tie.Need-enum-known-n
-enum-known-n c = search needs
-
-cast-result : tie.Need-cast-result
-cast-result c = search needs
-
 returns : tie.Need-returns
 returns c =
     let k = c .before .before .before .before .before in
@@ -49,11 +31,11 @@ pub muosleap-try-decode-quad-in-spec : {M : Type 1} → statement M
 muosleap-try-decode-quad-in-spec =
     tie.close
     (tie.spec
-    quad-at-requires
-    try-decode-quad-in-requires
-    enum-known-i
-    put-quad-requires
-    enum-known-n
-    cast-result
+    (λ c κs. search needs)  -- quad-at-requires
+    (λ c κs. search needs)  -- try-decode-quad-in-requires
+    (λ c. search needs)  -- enum-known-i
+    (λ c κs. search needs)  -- put-quad-requires
+    (λ c. search needs)  -- enum-known-n
+    (λ c. search needs)  -- cast-result
     returns
     returns-2)

@@ -34,25 +34,16 @@ weights-fit c = sym (c .before .bad-weights .ensures) ∙ c .if4 .left
 samples-fit : (c : tie.Else5) → not (all inUnit (now (St3 (c .before .before .before .before) .args .img))) ≡ false
 samples-fit c = ap not (sym (c .before .all-in-unit .ensures)) ∙ c .if5 .left
 
-bad-plane-requires : tie.Need-bad-plane-requires
-bad-plane-requires c κs = search needs
-
 returns : tie.Need-returns
 returns c =
     let a = c .before .before .before .before .before .before .args in
     blur-img (now (a .img)) (a .shape) (now (a .weights)) (now (a .temp)) (now (a .out)) (sym (c .before .bad-plane .ensures) ∙ c .if1 .taken)
-
-bad-plane-requires-2 : tie.Need-bad-plane-requires-2
-bad-plane-requires-2 c κs = search needs
 
 returns-2 : tie.Need-returns-2
 returns-2 c =
     let o = c .before .before in
     let a = St o .args in
     blur-temp (now (a .img)) (a .shape) (now (a .weights)) (now (a .temp)) (now (a .out)) (img-fits o) (sym (c .before .bad-plane2 .ensures) ∙ c .if2 .taken)
-
-bad-plane-requires-3 : tie.Need-bad-plane-requires-3
-bad-plane-requires-3 c κs = search needs
 
 returns-3 : tie.Need-returns-3
 returns-3 c =
@@ -61,18 +52,12 @@ returns-3 c =
     let a = St o .args in
     blur-out (now (a .img)) (a .shape) (now (a .weights)) (now (a .temp)) (now (a .out)) (img-fits o) (temp-fits p) (sym (c .before .bad-plane3 .ensures) ∙ c .if3 .taken)
 
-bad-weights-requires : tie.Need-bad-weights-requires
-bad-weights-requires c κs = search needs
-
 returns-4 : tie.Need-returns-4
 returns-4 c =
     let q = c .before .before in
     let p = q .before .before in
     let a = St3 q .args in
     blur-weights (now (a .img)) (a .shape) (now (a .weights)) (now (a .temp)) (now (a .out)) (img-fits (p .before .before)) (temp-fits p) (out-fits q) (sym (c .before .bad-weights .ensures) ∙ c .if4 .taken)
-
-all-in-unit-requires : tie.Need-all-in-unit-requires
-all-in-unit-requires c κs = search needs
 
 returns-5 : tie.Need-returns-5
 returns-5 c =
@@ -99,12 +84,6 @@ blur-down-requires c κs =
     let i = good-plane (img-fits (p .before .before)) in
     (i .sides .wide, r .blur-across .kept .1 .1 .1 .1 .0 ∙ good-plane (temp-fits p) .whole, good-plane (out-fits q) .whole, few-weights (now (St3 q .args .weights)) (weights-fit w), i .sides .height-le)
 
-same-length : tie.Need-same-length
-same-length c = search needs
-
-same-length-2 : tie.Need-same-length-2
-same-length-2 c = search needs
-
 returns-6 : tie.Need-returns-6
 returns-6 c =
     let d = c .before .before in
@@ -121,18 +100,18 @@ pub gaussian-blur-f32-spec : {M : Type 1} → statement M
 gaussian-blur-f32-spec =
     tie.close
     (tie.spec
-    bad-plane-requires
+    (λ c κs. search needs)  -- bad-plane-requires
     returns
-    bad-plane-requires-2
+    (λ c κs. search needs)  -- bad-plane-requires-2
     returns-2
-    bad-plane-requires-3
+    (λ c κs. search needs)  -- bad-plane-requires-3
     returns-3
-    bad-weights-requires
+    (λ c κs. search needs)  -- bad-weights-requires
     returns-4
-    all-in-unit-requires
+    (λ c κs. search needs)  -- all-in-unit-requires
     returns-5
     blur-across-requires
     blur-down-requires
-    same-length
-    same-length-2
+    (λ c. search needs)  -- same-length
+    (λ c. search needs)  -- same-length-2
     returns-6)

@@ -24,25 +24,16 @@ out-fits c = sym (c .before .bad-plane2 .ensures) ∙ c .if2 .left
 samples-fit : (c : tie.Else3) → not (all tame (now (St (c .before .before .before .before) .args .img))) ≡ false
 samples-fit c = ap not (sym (c .before .all-tame .ensures)) ∙ c .if3 .left
 
-bad-plane-requires : tie.Need-bad-plane-requires
-bad-plane-requires c κs = search needs
-
 returns : tie.Need-returns
 returns c =
     let a = c .before .before .before .before .args in
     response-img (now (a .img)) (a .shape) (now (a .out)) (sym (c .before .bad-plane .ensures) ∙ c .if1 .taken)
-
-bad-plane-requires-2 : tie.Need-bad-plane-requires-2
-bad-plane-requires-2 c κs = search needs
 
 returns-2 : tie.Need-returns-2
 returns-2 c =
     let o = c .before .before in
     let a = St o .args in
     response-out (now (a .img)) (a .shape) (now (a .out)) (img-fits o) (sym (c .before .bad-plane2 .ensures) ∙ c .if2 .taken)
-
-all-tame-requires : tie.Need-all-tame-requires
-all-tame-requires c κs = search needs
 
 returns-3 : tie.Need-returns-3
 returns-3 c =
@@ -57,9 +48,6 @@ hessian-response-requires c κs =
     let i = good-plane (img-fits (p .before .before)) in
     (i .sides .wide, i .sides .high, i .whole, good-plane (out-fits p) .whole)
 
-same-length : tie.Need-same-length
-same-length c = search needs
-
 returns-4 : tie.Need-returns-4
 returns-4 c =
     let r = c .before .before in
@@ -73,12 +61,12 @@ pub hessian-response-spec : {M : Type 1} → statement M
 hessian-response-spec =
     tie.close
     (tie.spec
-    bad-plane-requires
+    (λ c κs. search needs)  -- bad-plane-requires
     returns
-    bad-plane-requires-2
+    (λ c κs. search needs)  -- bad-plane-requires-2
     returns-2
-    all-tame-requires
+    (λ c κs. search needs)  -- all-tame-requires
     returns-3
     hessian-response-requires
-    same-length
+    (λ c. search needs)  -- same-length
     returns-4)

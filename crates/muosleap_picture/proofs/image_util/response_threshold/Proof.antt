@@ -17,9 +17,6 @@ St c = c .before .before .before
 fits : (c : tie.Else1) → misshapen (St c .args .shape) (now (St c .args .response)) ≡ false
 fits c = sym (c .before .bad-plane .ensures) ∙ c .if1 .left
 
-bad-plane-requires : tie.Need-bad-plane-requires
-bad-plane-requires c κs = search needs
-
 returns : tie.Need-returns
 returns c =
     let a = c .before .before .before .args in
@@ -45,4 +42,9 @@ returns-3 c =
 pub response-threshold-spec : {M : Type 1} → statement M
 response-threshold-spec =
     tie.close
-    (tie.spec bad-plane-requires returns response-threshold-requires returns-2 returns-3)
+    (tie.spec
+    (λ c κs. search needs)  -- bad-plane-requires
+    returns
+    response-threshold-requires
+    returns-2
+    returns-3)

@@ -6,9 +6,6 @@ use Rattle.muosleap_picture.specs.ClusterCenter.{clusterCenter}
 use Rattle.muosleap_picture.proofs.saddles.cluster_center.Statement.{statement}
 use Rattle.muosleap_picture.proofs.saddles.cluster_center.Tie as tie
 
-bad-center-requires : tie.Need-bad-center-requires
-bad-center-requires c κs = search needs
-
 returns : tie.Need-returns
 unfolding clusterCenter
 returns c = simp (sym (c .before .bad-center .ensures) ∙ c .if1 .taken)
@@ -22,4 +19,8 @@ returns-2 c = ap accepted (c .cluster-center .ensures) ∙ simp (sym (c .before 
 
 pub cluster-center-spec : {M : Type 1} → statement M
 cluster-center-spec =
-    tie.close (tie.spec bad-center-requires returns cluster-center-requires returns-2)
+    tie.close (tie.spec
+    (λ c κs. search needs)  -- bad-center-requires
+    returns
+    cluster-center-requires
+    returns-2)

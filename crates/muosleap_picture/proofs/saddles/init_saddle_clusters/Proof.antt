@@ -44,19 +44,10 @@ pass-3 c = ap not (sym (c .before .all-tame .ensures)) ∙ c .if2 .left
 pass-4 : (c : tie.Else3) → not (finite (at-1 (at-3 (c .before .before .before) .before) .args .threshold)) ≡ false
 pass-4 c = ap not (sym (c .before .is-finite .ensures)) ∙ c .if3 .left
 
-bad-plane-requires : tie.Need-bad-plane-requires
-bad-plane-requires c κs = search needs
-
 returns : tie.Need-returns
 returns c =
     let s = at-1 (c .before) in
     (refused-1 (plane s) (s .args .shape) (s .args .threshold) (room s) (rows s) (sym (c .before .bad-plane .ensures) ∙ c .if1 .taken), refl)
-
-all-tame-requires : tie.Need-all-tame-requires
-all-tame-requires c κs = search needs
-
-same-length : tie.Need-same-length
-same-length c = search needs
 
 returns-2 : tie.Need-returns-2
 returns-2 c =
@@ -64,27 +55,12 @@ returns-2 c =
     let s = at-1 (t .before) in
     (refused-3 (plane s) (s .args .shape) (s .args .threshold) (room s) (rows s) (pass-1 t) (ap not (sym (c .before .all-tame .ensures)) ∙ c .if2 .taken), refl)
 
-is-finite-requires : tie.Need-is-finite-requires
-is-finite-requires c κs = search needs
-
-same-length-2 : tie.Need-same-length-2
-same-length-2 c = search needs
-
 returns-3 : tie.Need-returns-3
 returns-3 c =
     let u = c .before .before in
     let t = at-3 (u .before) in
     let s = at-1 (t .before) in
     (refused-4 (plane s) (s .args .shape) (s .args .threshold) (room s) (rows s) (pass-1 t) (pass-3 u) (ap not (sym (c .before .is-finite .ensures)) ∙ c .if3 .taken), refl)
-
-mul-if4 : tie.Need-mul-if4
-mul-if4 c = search needs
-
-add-if4 : tie.Need-add-if4
-add-if4 c = search needs
-
-same-length-3 : tie.Need-same-length-3
-same-length-3 c = search needs
 
 -- the length that the worklist is measured by
 needed : (c : tie.Else1) → 3 * length (plane (at-1 (c .before))) + 1 ≡ 3 * at-1 (c .before) .args .shape .width * at-1 (c .before) .args .shape .height + 1
@@ -108,15 +84,6 @@ init-saddle-clusters-requires c κs =
     let t = at-3 (u .before) in
     (pass-1 t, (not-false (finite (at-1 (t .before) .args .threshold)) (pass-4 v), w .if4 .left))
 
-same-length-4 : tie.Need-same-length-4
-same-length-4 c = search needs
-
-same-length-5 : tie.Need-same-length-5
-same-length-5 c = search needs
-
-same-length-6 : tie.Need-same-length-6
-same-length-6 c = search needs
-
 returns-5 : tie.Need-returns-5
 returns-5 c =
     let k = c .before .before .before .before .before .before in
@@ -135,20 +102,20 @@ pub init-saddle-clusters-spec : {M : Type 1} → statement M
 init-saddle-clusters-spec =
     tie.close
     (tie.spec
-    bad-plane-requires
+    (λ c κs. search needs)  -- bad-plane-requires
     returns
-    all-tame-requires
-    same-length
+    (λ c κs. search needs)  -- all-tame-requires
+    (λ c. search needs)  -- same-length
     returns-2
-    is-finite-requires
-    same-length-2
+    (λ c κs. search needs)  -- is-finite-requires
+    (λ c. search needs)  -- same-length-2
     returns-3
-    mul-if4
-    add-if4
-    same-length-3
+    (λ c. search needs)  -- mul-if4
+    (λ c. search needs)  -- add-if4
+    (λ c. search needs)  -- same-length-3
     returns-4
     init-saddle-clusters-requires
-    same-length-4
-    same-length-5
-    same-length-6
+    (λ c. search needs)  -- same-length-4
+    (λ c. search needs)  -- same-length-5
+    (λ c. search needs)  -- same-length-6
     returns-5)

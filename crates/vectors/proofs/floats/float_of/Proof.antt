@@ -1,5 +1,5 @@
 -- `vectors::floats::float_of` is safe: past the test the pattern is no NaN's.
-use mathlib.Core.Path.{_≡_, sym, subst, _∙_}
+use mathlib.Core.Path.{sym, subst, _∙_}
 use mathlib.Core.Bool.{Bool, not}
 use lib.Dec.{T}
 use lib.Ieee.{binary32}
@@ -9,14 +9,12 @@ use borrow.Author.Tests.{le-ltb}
 use Rattle.vectors.proofs.floats.float_of.Statement.{statement}
 use Rattle.vectors.proofs.floats.float_of.Tie as tie
 
-returns : tie.Need-returns
-returns c = search needs
-
 float-from-bits-result : tie.Need-float-from-bits-result
 float-from-bits-result c = subst (λ (b : Bool). T (not b)) (sym (nanBits-above binary32 (c .before .args .pattern) ∙ le-ltb _ _ (c .if1 .left))) tt
 
-returns-2 : tie.Need-returns-2
-returns-2 c = search needs
-
 pub float-of-spec : {M : Type 1} → statement M
-float-of-spec = tie.close (tie.spec returns float-from-bits-result returns-2)
+float-of-spec = tie.close (tie.spec
+    (λ c. search needs)  -- returns
+    float-from-bits-result
+    (λ c. search needs)  -- returns-2
+    )

@@ -13,14 +13,12 @@ not-nan nan h = absurd (true≢false h)
 not-nan (inf s) h = tt
 not-nan (fin s m e) h = tt
 
-returns : tie.Need-returns
-returns c = search needs
-
 float-to-bits-result : tie.Need-float-to-bits-result
 float-to-bits-result c = not-nan (c .before .args .x) (c .if1 .left)
 
-returns-2 : tie.Need-returns-2
-returns-2 c = search needs
-
 pub pattern-of-spec : {M : Type 1} → statement M
-pattern-of-spec = tie.close (tie.spec returns float-to-bits-result returns-2)
+pattern-of-spec = tie.close (tie.spec
+    (λ c. search needs)  -- returns
+    float-to-bits-result
+    (λ c. search needs)  -- returns-2
+    )
