@@ -1,0 +1,27 @@
+-- The entry's outcome, taken apart. Assumes nothing.
+use borrow.Author.Needs.{needs}
+use Rattle.c_picture.proofs.cluster_center.Statement.{statement}
+use Rattle.c_picture.proofs.cluster_center.Tie as tie
+
+cluster-center-requires : tie.Need-cluster-center-requires
+cluster-center-requires c κs = search needs
+
+enum-known-p : tie.Need-enum-known-p
+enum-known-p c = search needs
+
+enum-known-n : tie.Need-enum-known-n
+enum-known-n c = search needs
+
+cast-result : tie.Need-cast-result
+cast-result c = search needs
+
+returns : tie.Need-returns
+returns c = rw (← c .before .before .before .before .cluster-center .ensures, c .before .before .p .given .1) (search needs)
+
+returns-2 : tie.Need-returns-2
+returns-2 c = rw (← c .before .before .before .cluster-center .ensures, c .before .n .given .1) (search needs)
+
+pub cluster-center-spec : {M : Type 1} → statement M
+cluster-center-spec =
+    tie.close
+    (tie.spec cluster-center-requires enum-known-p enum-known-n cast-result returns returns-2)

@@ -1,0 +1,38 @@
+-- What the entry's call leaves, part by part. Assumes nothing.
+use mathlib.Core.Path.{refl}
+use borrow.Author.Needs.{needs}
+use Rattle.c_picture.proofs.init_saddle_clusters.Statement.{statement}
+use Rattle.c_picture.proofs.init_saddle_clusters.Tie as tie
+
+init-saddle-clusters-requires : tie.Need-init-saddle-clusters-requires
+init-saddle-clusters-requires c κs = search needs
+
+put-total-requires : tie.Need-put-total-requires
+put-total-requires c κs = search needs
+
+same-length : tie.Need-same-length
+same-length c = search needs
+
+same-length-2 : tie.Need-same-length-2
+same-length-2 c = search needs
+
+same-length-3 : tie.Need-same-length-3
+same-length-3 c = search needs
+
+returns : tie.Need-returns
+returns c =
+    let put = c .put-total .ensures in
+    let call = c .before .before .before .before .before .before .before .before .init-saddle-clusters .ensures in
+    rw (← call .0)
+    record { answered = put .answered; plane-left = refl; worklist-kept = call .1; rows-left = refl; total-written = put .written }
+
+pub init-saddle-clusters-spec : {M : Type 1} → statement M
+init-saddle-clusters-spec =
+    tie.close
+    (tie.spec
+    init-saddle-clusters-requires
+    put-total-requires
+    same-length
+    same-length-2
+    same-length-3
+    returns)

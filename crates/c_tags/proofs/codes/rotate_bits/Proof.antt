@@ -1,0 +1,27 @@
+-- The entry's outcome, taken apart. Assumes nothing.
+use borrow.Author.Needs.{needs}
+use Rattle.c_tags.proofs.codes.rotate_bits.Statement.{statement}
+use Rattle.c_tags.proofs.codes.rotate_bits.Tie as tie
+
+rotate-bits-requires : tie.Need-rotate-bits-requires
+rotate-bits-requires c κs = search needs
+
+enum-known-w : tie.Need-enum-known-w
+enum-known-w c = search needs
+
+enum-known-n : tie.Need-enum-known-n
+enum-known-n c = search needs
+
+cast-result : tie.Need-cast-result
+cast-result c = search needs
+
+returns : tie.Need-returns
+returns c = rw (← c .before .before .before .rotate-bits .ensures, c .before .w .given .1) (search needs)
+
+returns-2 : tie.Need-returns-2
+returns-2 c = rw (← c .before .before .before .rotate-bits .ensures, c .before .n .given .1) (search needs)
+
+pub rotate-bits-spec : {M : Type 1} → statement M
+rotate-bits-spec =
+    tie.close
+    (tie.spec rotate-bits-requires enum-known-w enum-known-n cast-result returns returns-2)
