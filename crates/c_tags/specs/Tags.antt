@@ -1,0 +1,42 @@
+-- What the calls for C on tags return and leave, told by what the entry's own definition says. Assumes nothing.
+use Prim.Native.Nat.{ℕ}
+use mathlib.Core.Path.{_≡_}
+use mathlib.Core.List.{List}
+use lib.Ieee.{Float}
+use Rattle.refusals.specs.Outcome.{Outcome, number}
+use Rattle.points.specs.declared.Quad.{Quad}
+use Rattle.search.specs.Search.{Seen}
+use Rattle.reader.specs.Reading.{Tag}
+use Rattle.points.specs.Numbers.{quadAt, numbersOf}
+use Rattle.listing.specs.Listing.{Listing}
+use Rattle.muosleap.specs.PaintTag.{Painting}
+use Rattle.outputs.specs.Outputs.{Output, Written}
+
+-- the quad of eight numbers
+abbrev pub quadOf : List Float → Quad
+quadOf numbers = quadAt numbers 0
+
+-- a code's search: the code's number and the turn
+pub record FindsTag (found : Outcome Seen) (r : ℕ) (id turn : Output ℕ) : Type 0 where
+  pub answered : r ≡ number found
+  pub id-written : Written found (λ (s : Seen). s .id) id
+  pub turn-written : Written found (λ (s : Seen). s .turn) turn
+
+-- a quad's reading: the tag's number, its turn and its corners
+pub record ReadsTag (read : Outcome Tag) (r : ℕ) (id turn : Output ℕ) (corners : Output (List Float)) : Type 0 where
+  pub answered : r ≡ number read
+  pub id-written : Written read (λ (t : Tag). t .id) id
+  pub turn-written : Written read (λ (t : Tag). t .turn) turn
+  pub corners-written : Written read (λ (t : Tag). numbersOf (t .corners)) corners
+
+-- a list's reading: rows and corners
+pub record ReadsTags (list : Listing) (r : ℕ) (rows : Output (List ℕ)) (corners : Output (List Float)) : Type 0 where
+  pub answered : r ≡ number (list .answer)
+  pub rows-left : rows .after ≡ list .rows
+  pub corners-left : corners .after ≡ list .corners
+
+-- a painting: the plane, and the painted tag's corners
+pub record PaintsTag (painting : Painting) (r : ℕ) (plane : Output (List ℕ)) (quad : Output (List Float)) : Type 0 where
+  pub answered : r ≡ number (painting .answer)
+  pub plane-left : plane .after ≡ painting .plane
+  pub quad-written : Written (painting .answer) numbersOf quad

@@ -1,0 +1,157 @@
+// Quads, lists of quads and the painter. The form with a lent table and the form by family number share what comes after the entry's answer.
+use muosleap::painting::Painted;
+use muosleap::quads::Listed;
+use painter::Print;
+use reader::Reading;
+use refusals::Frame;
+use tables::Family;
+ghost use mathlib.Core.Path.{_≡_};
+ghost use Rattle.refusals.specs.Outcome.{number};
+ghost use Rattle.reader.specs.Answer.{paperReading};
+ghost use Rattle.muosleap.specs.Quad.{decodeQuad, decodeQuadIn};
+ghost use Rattle.muosleap.specs.Quads.{decodeQuads, decodeQuadsIn, paperListed};
+ghost use Rattle.muosleap.specs.PaintTag.{paintTag, paintTagIn, paperPainted};
+ghost use Rattle.points.specs.Numbers.{numbersOf};
+ghost use Rattle.outputs.specs.Outputs.{Gives, seen};
+ghost use Rattle.c_tags.specs.Tags.{quadOf, ReadsTag, ReadsTags, PaintsTag};
+
+// A reading's outputs.
+fn put_tag(read: Reading, id: &mut usize, turn: &mut u8, corners: &mut [f32; 8]) -> u32
+    ensures { λ r. ⌜ ReadsTag (paperReading read) r (seen id) (seen turn) (seen corners) ⌝ }
+{
+    match read {
+        Reading::Tag {
+            id: i,
+            turn: t,
+            corners: c,
+        } => {
+            *id = i;
+            *turn = t;
+            points::put_quad(corners, 0, c);
+            0
+        }
+        Reading::Refused(n) => n as u32,
+    }
+}
+
+pub fn try_decode_quad(
+    plane: &[u8],
+    frame: Frame,
+    family: Family,
+    codes: &[u64],
+    quad: &[f32; 8],
+    id: &mut usize,
+    turn: &mut u8,
+    corners: &mut [f32; 8],
+) -> u32
+    ensures { λ r. ⌜ ReadsTag (decodeQuad (now (plane .entry)) frame family (now (codes .entry)) (quadOf (now (quad .entry)))) r (seen id) (seen turn) (seen corners) ⌝ }
+{
+    let lent = points::quad_at(quad, 0);
+    let read = muosleap::detector::try_decode_quad(plane, frame, family, codes, lent);
+    put_tag(read, id, turn, corners)
+}
+
+pub fn try_decode_quad_in(
+    plane: &[u8],
+    frame: Frame,
+    family: u8,
+    quad: &[f32; 8],
+    id: &mut usize,
+    turn: &mut u8,
+    corners: &mut [f32; 8],
+) -> u32
+    ensures { λ r. ⌜ ReadsTag (decodeQuadIn (now (plane .entry)) frame family (quadOf (now (quad .entry)))) r (seen id) (seen turn) (seen corners) ⌝ }
+{
+    let lent = points::quad_at(quad, 0);
+    let read = muosleap::detector::try_decode_quad_in(plane, frame, family, lent);
+    put_tag(read, id, turn, corners)
+}
+
+// A list's answer.
+fn list_number(listed: Listed) -> u32
+    ensures { λ r. ⌜ r ≡ number (paperListed listed) ⌝ }
+{
+    match listed {
+        Listed::Done(_) => 0,
+        Listed::Refused(n) => n as u32,
+    }
+}
+
+pub fn try_decode_quads(
+    plane: &[u8],
+    frame: Frame,
+    family: Family,
+    codes: &[u64],
+    quads: &[f32],
+    rows: &mut [u64],
+    corners: &mut [f32],
+) -> u32
+    ensures { λ r. ⌜ ReadsTags (decodeQuads (now (plane .entry)) frame family (now (codes .entry)) (now (quads .entry)) (now (rows .entry)) (now (corners .entry))) r (seen rows) (seen corners) ⌝ }
+{
+    let listed = muosleap::quads::try_decode_quads(
+        plane,
+        frame,
+        family,
+        codes,
+        quads,
+        rows,
+        corners,
+    );
+    list_number(listed)
+}
+
+pub fn try_decode_quads_in(
+    plane: &[u8],
+    frame: Frame,
+    family: u8,
+    quads: &[f32],
+    rows: &mut [u64],
+    corners: &mut [f32],
+) -> u32
+    ensures { λ r. ⌜ ReadsTags (decodeQuadsIn (now (plane .entry)) frame family (now (quads .entry)) (now (rows .entry)) (now (corners .entry))) r (seen rows) (seen corners) ⌝ }
+{
+    let listed = muosleap::quads::try_decode_quads_in(plane, frame, family, quads, rows, corners);
+    list_number(listed)
+}
+
+// A painting's outputs.
+fn put_painted(painted: Painted, quad: &mut [f32; 8]) -> u32
+    ensures { λ r. ⌜ Gives (paperPainted painted) numbersOf r (seen quad) ⌝ }
+{
+    match painted {
+        Painted::Tag(q) => {
+            points::put_quad(quad, 0, q);
+            0
+        }
+        Painted::Refused(n) => n as u32,
+    }
+}
+
+pub fn paint_tag(
+    plane: &mut [u8],
+    frame: Frame,
+    edge: u8,
+    border: u8,
+    word: u64,
+    print: Print,
+    quad: &mut [f32; 8],
+) -> u32
+    ensures { λ r. ⌜ PaintsTag (paintTag (now (plane .entry)) frame edge border word print) r (seen plane) (seen quad) ⌝ }
+{
+    let painted = muosleap::painting::paint_tag(plane, frame, edge, border, word, print);
+    put_painted(painted, quad)
+}
+
+pub fn paint_tag_in(
+    plane: &mut [u8],
+    frame: Frame,
+    family: u8,
+    word: u64,
+    print: Print,
+    quad: &mut [f32; 8],
+) -> u32
+    ensures { λ r. ⌜ PaintsTag (paintTagIn (now (plane .entry)) frame family word print) r (seen plane) (seen quad) ⌝ }
+{
+    let painted = muosleap::painting::paint_tag_in(plane, frame, family, word, print);
+    put_painted(painted, quad)
+}
