@@ -42,26 +42,39 @@ fn sheets(plane: &mut [u8], table: &[u64], number: u8) {
     );
 }
 
-fn with_table(plane: &mut [u8], number: u8, name: &[u8]) {
-    let mut table = [0u64; 1024];
+// All sheets of a table by its number.
+fn table(plane: &mut [u8], number: u8) {
+    let mut room = [0u64; 1024];
     let n = codes::count(number);
-    io::write_all(STDOUT_FILENO, name);
-    codes::load(number, &mut table);
-    sheets(plane, &table[0..n], number);
-    lists::all(plane, &table[0..n], number);
+    codes::load(number, &mut room);
+    sheets(plane, &room[0..n], number);
+    lists::all(plane, &room[0..n], number);
 }
 
-fn families(plane: &mut [u8]) {
-    with_table(plane, 0, b"T16H5\n");
-    with_table(plane, 1, b"T25H7\n");
-    with_table(plane, 2, b"T25H9\n");
-    with_table(plane, 3, b"T36H11\n");
-    with_table(plane, 4, b"T36H11B1\n");
+fn named(plane: &mut [u8], number: u8, name: &[u8]) {
+    io::write_all(STDOUT_FILENO, name);
+    table(plane, number);
+}
+
+fn small_families(plane: &mut [u8]) {
+    named(plane, 0, b"T16H5\n");
+    named(plane, 1, b"T25H7\n");
+    named(plane, 2, b"T25H9\n");
+}
+
+fn large_families(plane: &mut [u8]) {
+    named(plane, 3, b"T36H11\n");
+    named(plane, 4, b"T36H11B1\n");
+}
+
+fn own_tables(plane: &mut [u8]) {
+    named(plane, 5, b"a table of edge 8\n");
+    named(plane, 6, b"a table of edge 3\n");
 }
 
 fn main() {
     let mut plane = canvas();
-    families(&mut plane);
-    with_table(&mut plane, 5, b"a table of edge 8\n");
-    with_table(&mut plane, 6, b"a table of edge 3\n");
+    small_families(&mut plane);
+    large_families(&mut plane);
+    own_tables(&mut plane);
 }
