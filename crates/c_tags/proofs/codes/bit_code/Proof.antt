@@ -1,13 +1,14 @@
 -- The entry's outcome, taken apart. Assumes nothing.
+use mathlib.Core.Path.{refl}
 use borrow.Author.Needs.{needs}
 use Rattle.c_tags.proofs.codes.bit_code.Statement.{statement}
 use Rattle.c_tags.proofs.codes.bit_code.Tie as tie
 
 returns : tie.Need-returns
-returns c = rw (← c .before .before .before .bit-code .ensures, c .before .w .given .1) (search needs)
+returns c = rw (← c .before .before .before .bit-code .ensures, c .before .w .given .1) record { answered = refl; written = refl }
 
 returns-2 : tie.Need-returns-2
-returns-2 c = rw (← c .before .before .before .bit-code .ensures, c .before .n .given .1) (search needs)
+returns-2 c = rw (← c .before .before .before .bit-code .ensures, c .before .n .given .1) record { answered = refl; written = refl }
 
 pub bit-code-spec : {M : Type 1} → statement M
 bit-code-spec =
