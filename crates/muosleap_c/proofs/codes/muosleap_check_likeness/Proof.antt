@@ -3,11 +3,10 @@ use borrow.Author.Needs.{needs}
 use Rattle.muosleap_c.proofs.codes.muosleap_check_likeness.Statement.{statement}
 use Rattle.muosleap_c.proofs.codes.muosleap_check_likeness.Tie as tie
 
-check-likeness-requires : tie.Need-check-likeness-requires
-check-likeness-requires c κs = search needs
-
 returns : tie.Need-returns
 returns c = c .check-likeness .ensures
 
 pub muosleap-check-likeness-spec : {M : Type 1} → statement M
-muosleap-check-likeness-spec = tie.close (tie.spec check-likeness-requires returns)
+muosleap-check-likeness-spec = tie.close (tie.spec
+    (λ c κs. search needs)  -- check-likeness-requires
+    returns)

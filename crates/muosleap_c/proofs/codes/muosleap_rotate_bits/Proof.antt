@@ -3,11 +3,10 @@ use borrow.Author.Needs.{needs}
 use Rattle.muosleap_c.proofs.codes.muosleap_rotate_bits.Statement.{statement}
 use Rattle.muosleap_c.proofs.codes.muosleap_rotate_bits.Tie as tie
 
-rotate-bits-requires : tie.Need-rotate-bits-requires
-rotate-bits-requires c κs = search needs
-
 returns : tie.Need-returns
 returns c = c .rotate-bits .ensures
 
 pub muosleap-rotate-bits-spec : {M : Type 1} → statement M
-muosleap-rotate-bits-spec = tie.close (tie.spec rotate-bits-requires returns)
+muosleap-rotate-bits-spec = tie.close (tie.spec
+    (λ c κs. search needs)  -- rotate-bits-requires
+    returns)

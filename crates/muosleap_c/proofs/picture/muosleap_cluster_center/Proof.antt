@@ -3,11 +3,10 @@ use borrow.Author.Needs.{needs}
 use Rattle.muosleap_c.proofs.picture.muosleap_cluster_center.Statement.{statement}
 use Rattle.muosleap_c.proofs.picture.muosleap_cluster_center.Tie as tie
 
-cluster-center-requires : tie.Need-cluster-center-requires
-cluster-center-requires c κs = search needs
-
 returns : tie.Need-returns
 returns c = c .cluster-center .ensures
 
 pub muosleap-cluster-center-spec : {M : Type 1} → statement M
-muosleap-cluster-center-spec = tie.close (tie.spec cluster-center-requires returns)
+muosleap-cluster-center-spec = tie.close (tie.spec
+    (λ c κs. search needs)  -- cluster-center-requires
+    returns)

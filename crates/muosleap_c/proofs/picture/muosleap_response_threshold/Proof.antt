@@ -3,11 +3,10 @@ use borrow.Author.Needs.{needs}
 use Rattle.muosleap_c.proofs.picture.muosleap_response_threshold.Statement.{statement}
 use Rattle.muosleap_c.proofs.picture.muosleap_response_threshold.Tie as tie
 
-response-threshold-requires : tie.Need-response-threshold-requires
-response-threshold-requires c κs = search needs
-
 returns : tie.Need-returns
 returns c = c .response-threshold .ensures
 
 pub muosleap-response-threshold-spec : {M : Type 1} → statement M
-muosleap-response-threshold-spec = tie.close (tie.spec response-threshold-requires returns)
+muosleap-response-threshold-spec = tie.close (tie.spec
+    (λ c κs. search needs)  -- response-threshold-requires
+    returns)

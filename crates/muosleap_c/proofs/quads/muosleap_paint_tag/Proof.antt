@@ -3,14 +3,11 @@ use borrow.Author.Needs.{needs}
 use Rattle.muosleap_c.proofs.quads.muosleap_paint_tag.Statement.{statement}
 use Rattle.muosleap_c.proofs.quads.muosleap_paint_tag.Tie as tie
 
-paint-tag-requires : tie.Need-paint-tag-requires
-paint-tag-requires c κs = search needs
-
-same-length : tie.Need-same-length
-same-length c = search needs
-
 returns : tie.Need-returns
 returns c = c .before .before .paint-tag .ensures
 
 pub muosleap-paint-tag-spec : {M : Type 1} → statement M
-muosleap-paint-tag-spec = tie.close (tie.spec paint-tag-requires same-length returns)
+muosleap-paint-tag-spec = tie.close (tie.spec
+    (λ c κs. search needs)  -- paint-tag-requires
+    (λ c. search needs)  -- same-length
+    returns)

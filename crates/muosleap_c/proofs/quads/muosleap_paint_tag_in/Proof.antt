@@ -3,14 +3,11 @@ use borrow.Author.Needs.{needs}
 use Rattle.muosleap_c.proofs.quads.muosleap_paint_tag_in.Statement.{statement}
 use Rattle.muosleap_c.proofs.quads.muosleap_paint_tag_in.Tie as tie
 
-paint-tag-in-requires : tie.Need-paint-tag-in-requires
-paint-tag-in-requires c κs = search needs
-
-same-length : tie.Need-same-length
-same-length c = search needs
-
 returns : tie.Need-returns
 returns c = c .before .before .paint-tag-in .ensures
 
 pub muosleap-paint-tag-in-spec : {M : Type 1} → statement M
-muosleap-paint-tag-in-spec = tie.close (tie.spec paint-tag-in-requires same-length returns)
+muosleap-paint-tag-in-spec = tie.close (tie.spec
+    (λ c κs. search needs)  -- paint-tag-in-requires
+    (λ c. search needs)  -- same-length
+    returns)

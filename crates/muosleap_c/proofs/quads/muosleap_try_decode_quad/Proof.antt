@@ -3,11 +3,10 @@ use borrow.Author.Needs.{needs}
 use Rattle.muosleap_c.proofs.quads.muosleap_try_decode_quad.Statement.{statement}
 use Rattle.muosleap_c.proofs.quads.muosleap_try_decode_quad.Tie as tie
 
-try-decode-quad-requires : tie.Need-try-decode-quad-requires
-try-decode-quad-requires c κs = search needs
-
 returns : tie.Need-returns
 returns c = c .try-decode-quad .ensures
 
 pub muosleap-try-decode-quad-spec : {M : Type 1} → statement M
-muosleap-try-decode-quad-spec = tie.close (tie.spec try-decode-quad-requires returns)
+muosleap-try-decode-quad-spec = tie.close (tie.spec
+    (λ c κs. search needs)  -- try-decode-quad-requires
+    returns)

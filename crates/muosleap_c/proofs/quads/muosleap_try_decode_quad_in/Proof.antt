@@ -3,11 +3,10 @@ use borrow.Author.Needs.{needs}
 use Rattle.muosleap_c.proofs.quads.muosleap_try_decode_quad_in.Statement.{statement}
 use Rattle.muosleap_c.proofs.quads.muosleap_try_decode_quad_in.Tie as tie
 
-try-decode-quad-in-requires : tie.Need-try-decode-quad-in-requires
-try-decode-quad-in-requires c κs = search needs
-
 returns : tie.Need-returns
 returns c = c .try-decode-quad-in .ensures
 
 pub muosleap-try-decode-quad-in-spec : {M : Type 1} → statement M
-muosleap-try-decode-quad-in-spec = tie.close (tie.spec try-decode-quad-in-requires returns)
+muosleap-try-decode-quad-in-spec = tie.close (tie.spec
+    (λ c κs. search needs)  -- try-decode-quad-in-requires
+    returns)
