@@ -11,7 +11,7 @@ ghost use Rattle.refusals.specs.Outcome.{number};
 ghost use Rattle.muosleap_picture.specs.ImageUtil.{gaussianBlur, hessianResponse, responseThreshold, paperFilled};
 ghost use Rattle.muosleap_picture.specs.SaddleClusters.{initSaddleClusters, paperClusters};
 ghost use Rattle.muosleap_picture.specs.ClusterCenter.{clusterCenter};
-ghost use Rattle.outputs.specs.Outputs.{Gives, whole, seen};
+ghost use Rattle.outputs.specs.Outputs.{Gives, whole, held};
 ghost use Rattle.c_picture.specs.Picture.{Blurs, Responds, FindsClusters, coordinates};
 
 // A plane's answer.
@@ -31,21 +31,21 @@ pub fn gaussian_blur_f32(
     temp: &mut [f32],
     out: &mut [f32],
 ) -> u32
-    ensures { λ r. ⌜ Blurs (gaussianBlur (now (img .entry)) shape (now (weights .entry)) (now (temp .entry)) (now (out .entry))) r (seen temp) (seen out) ⌝ }
+    ensures { λ r. ⌜ Blurs (gaussianBlur (now (img .entry)) shape (now (weights .entry)) (now (temp .entry)) (now (out .entry))) r (held temp) (held out) ⌝ }
 {
     let filled = muosleap_picture::image_util::gaussian_blur_f32(img, shape, weights, temp, out);
     plane_number(filled)
 }
 
 pub fn hessian_response(img: &[f32], shape: Shape, out: &mut [f32]) -> u32
-    ensures { λ r. ⌜ Responds (hessianResponse (now (img .entry)) shape (now (out .entry))) r (seen out) ⌝ }
+    ensures { λ r. ⌜ Responds (hessianResponse (now (img .entry)) shape (now (out .entry))) r (held out) ⌝ }
 {
     let filled = muosleap_picture::image_util::hessian_response(img, shape, out);
     plane_number(filled)
 }
 
 pub fn response_threshold(response: &[f32], shape: Shape, threshold: &mut f32) -> u32
-    ensures { λ r. ⌜ Gives (responseThreshold (now (response .entry)) shape) whole r (seen threshold) ⌝ }
+    ensures { λ r. ⌜ Gives (responseThreshold (now (response .entry)) shape) whole r (held threshold) ⌝ }
 {
     match muosleap_picture::image_util::response_threshold(response, shape) {
         Threshold::At(t) => {
@@ -58,7 +58,7 @@ pub fn response_threshold(response: &[f32], shape: Shape, threshold: &mut f32) -
 
 // A total, where there is one.
 fn put_total(clusters: Clusters, total: &mut usize) -> u32
-    ensures { λ r. ⌜ Gives (paperClusters clusters) whole r (seen total) ⌝ }
+    ensures { λ r. ⌜ Gives (paperClusters clusters) whole r (held total) ⌝ }
 {
     match clusters {
         Clusters::Total(n) => {
@@ -78,7 +78,7 @@ pub fn init_saddle_clusters(
     total: &mut usize,
 ) -> u32
     ensures { λ r. ⌜ FindsClusters (initSaddleClusters (now («h_mat» .entry)) shape threshold (length (now (worklist .entry))) (now (rows .entry)))
-        r (seen «h_mat») (seen worklist) (seen rows) (seen total) ⌝ }
+        r (held «h_mat») (held worklist) (held rows) (held total) ⌝ }
 {
     let clusters = muosleap_picture::saddles::init_saddle_clusters(
         h_mat,
@@ -91,7 +91,7 @@ pub fn init_saddle_clusters(
 }
 
 pub fn cluster_center(sum_x: u64, sum_y: u64, count: u64, center: &mut [f32; 2]) -> u32
-    ensures { λ r. ⌜ Gives (clusterCenter «sum_x» «sum_y» count) coordinates r (seen center) ⌝ }
+    ensures { λ r. ⌜ Gives (clusterCenter «sum_x» «sum_y» count) coordinates r (held center) ⌝ }
 {
     match muosleap_picture::saddles::cluster_center(sum_x, sum_y, count) {
         Center::At(p) => {

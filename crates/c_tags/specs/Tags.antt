@@ -7,14 +7,10 @@ use Rattle.refusals.specs.Outcome.{Outcome, number}
 use Rattle.points.specs.declared.Quad.{Quad}
 use Rattle.search.specs.Search.{Seen}
 use Rattle.reader.specs.Reading.{Tag}
-use Rattle.points.specs.Numbers.{quadAt, numbersOf}
+use Rattle.points.specs.Numbers.{numbersOf}
 use Rattle.listing.specs.Listing.{Listing}
 use Rattle.muosleap.specs.PaintTag.{Painting}
 use Rattle.outputs.specs.Outputs.{Output, Written}
-
--- the quad of eight numbers
-abbrev pub quadOf : List Float → Quad
-quadOf numbers = quadAt numbers 0
 
 -- a code's search: the code's number and the turn
 pub record FindsTag (found : Outcome Seen) (r : ℕ) (id turn : Output ℕ) : Type 0 where

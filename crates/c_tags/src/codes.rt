@@ -9,11 +9,11 @@ ghost use Rattle.refusals.specs.Outcome.{number};
 ghost use Rattle.muosleap.specs.Codes.{turned, bestTag};
 ghost use Rattle.muosleap.specs.Likeness.{checkLikeness};
 ghost use Rattle.muosleap.specs.BitCode.{bitCode};
-ghost use Rattle.outputs.specs.Outputs.{Gives, whole, seen};
+ghost use Rattle.outputs.specs.Outputs.{Gives, whole, held};
 ghost use Rattle.c_tags.specs.Tags.{FindsTag};
 
 pub fn rotate_bits(bits: u64, edge: u8, word: &mut u64) -> u32
-    ensures { λ r. ⌜ Gives (turned bits edge) whole r (seen word) ⌝ }
+    ensures { λ r. ⌜ Gives (turned bits edge) whole r (held word) ⌝ }
 {
     match muosleap::detector::rotate_bits(bits, edge) {
         Turned::Word(w) => {
@@ -32,7 +32,7 @@ pub fn best_tag(
     id: &mut usize,
     turn: &mut u8,
 ) -> u32
-    ensures { λ r. ⌜ FindsTag (bestTag bits «hamming_distance» (now (codes .entry)) edge) r (seen id) (seen turn) ⌝ }
+    ensures { λ r. ⌜ FindsTag (bestTag bits «hamming_distance» (now (codes .entry)) edge) r (held id) (held turn) ⌝ }
 {
     match muosleap::detector::best_tag(bits, hamming_distance, codes, edge) {
         Found::Tag { id: i, turn: t } => {
@@ -54,7 +54,7 @@ pub fn check_likeness(family: Family, codes: &[u64]) -> u32
 }
 
 pub fn bit_code(levels: &[u8], band: u8, allowed: u32, word: &mut u64) -> u32
-    ensures { λ r. ⌜ Gives (bitCode (now (levels .entry)) band allowed) whole r (seen word) ⌝ }
+    ensures { λ r. ⌜ Gives (bitCode (now (levels .entry)) band allowed) whole r (held word) ⌝ }
 {
     match muosleap::detector::bit_code(levels, band, allowed) {
         Bits::Word(w) => {

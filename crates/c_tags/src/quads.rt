@@ -11,13 +11,13 @@ ghost use Rattle.reader.specs.Answer.{paperReading};
 ghost use Rattle.muosleap.specs.Quad.{decodeQuad, decodeQuadIn};
 ghost use Rattle.muosleap.specs.Quads.{decodeQuads, decodeQuadsIn, paperListed};
 ghost use Rattle.muosleap.specs.PaintTag.{paintTag, paintTagIn, paperPainted};
-ghost use Rattle.points.specs.Numbers.{numbersOf};
-ghost use Rattle.outputs.specs.Outputs.{Gives, seen};
-ghost use Rattle.c_tags.specs.Tags.{quadOf, ReadsTag, ReadsTags, PaintsTag};
+ghost use Rattle.points.specs.Numbers.{quadAt, numbersOf};
+ghost use Rattle.outputs.specs.Outputs.{Gives, held};
+ghost use Rattle.c_tags.specs.Tags.{ReadsTag, ReadsTags, PaintsTag};
 
 // A reading's outputs.
 fn put_tag(read: Reading, id: &mut usize, turn: &mut u8, corners: &mut [f32; 8]) -> u32
-    ensures { λ r. ⌜ ReadsTag (paperReading read) r (seen id) (seen turn) (seen corners) ⌝ }
+    ensures { λ r. ⌜ ReadsTag (paperReading read) r (held id) (held turn) (held corners) ⌝ }
 {
     match read {
         Reading::Tag {
@@ -44,7 +44,7 @@ pub fn try_decode_quad(
     turn: &mut u8,
     corners: &mut [f32; 8],
 ) -> u32
-    ensures { λ r. ⌜ ReadsTag (decodeQuad (now (plane .entry)) frame family (now (codes .entry)) (quadOf (now (quad .entry)))) r (seen id) (seen turn) (seen corners) ⌝ }
+    ensures { λ r. ⌜ ReadsTag (decodeQuad (now (plane .entry)) frame family (now (codes .entry)) (quadAt (now (quad .entry)) 0)) r (held id) (held turn) (held corners) ⌝ }
 {
     let lent = points::quad_at(quad, 0);
     let read = muosleap::detector::try_decode_quad(plane, frame, family, codes, lent);
@@ -60,7 +60,7 @@ pub fn try_decode_quad_in(
     turn: &mut u8,
     corners: &mut [f32; 8],
 ) -> u32
-    ensures { λ r. ⌜ ReadsTag (decodeQuadIn (now (plane .entry)) frame family (quadOf (now (quad .entry)))) r (seen id) (seen turn) (seen corners) ⌝ }
+    ensures { λ r. ⌜ ReadsTag (decodeQuadIn (now (plane .entry)) frame family (quadAt (now (quad .entry)) 0)) r (held id) (held turn) (held corners) ⌝ }
 {
     let lent = points::quad_at(quad, 0);
     let read = muosleap::detector::try_decode_quad_in(plane, frame, family, lent);
@@ -86,7 +86,7 @@ pub fn try_decode_quads(
     rows: &mut [u64],
     corners: &mut [f32],
 ) -> u32
-    ensures { λ r. ⌜ ReadsTags (decodeQuads (now (plane .entry)) frame family (now (codes .entry)) (now (quads .entry)) (now (rows .entry)) (now (corners .entry))) r (seen rows) (seen corners) ⌝ }
+    ensures { λ r. ⌜ ReadsTags (decodeQuads (now (plane .entry)) frame family (now (codes .entry)) (now (quads .entry)) (now (rows .entry)) (now (corners .entry))) r (held rows) (held corners) ⌝ }
 {
     let listed = muosleap::quads::try_decode_quads(
         plane,
@@ -108,7 +108,7 @@ pub fn try_decode_quads_in(
     rows: &mut [u64],
     corners: &mut [f32],
 ) -> u32
-    ensures { λ r. ⌜ ReadsTags (decodeQuadsIn (now (plane .entry)) frame family (now (quads .entry)) (now (rows .entry)) (now (corners .entry))) r (seen rows) (seen corners) ⌝ }
+    ensures { λ r. ⌜ ReadsTags (decodeQuadsIn (now (plane .entry)) frame family (now (quads .entry)) (now (rows .entry)) (now (corners .entry))) r (held rows) (held corners) ⌝ }
 {
     let listed = muosleap::quads::try_decode_quads_in(plane, frame, family, quads, rows, corners);
     list_number(listed)
@@ -116,7 +116,7 @@ pub fn try_decode_quads_in(
 
 // A painting's outputs.
 fn put_painted(painted: Painted, quad: &mut [f32; 8]) -> u32
-    ensures { λ r. ⌜ Gives (paperPainted painted) numbersOf r (seen quad) ⌝ }
+    ensures { λ r. ⌜ Gives (paperPainted painted) numbersOf r (held quad) ⌝ }
 {
     match painted {
         Painted::Tag(q) => {
@@ -136,7 +136,7 @@ pub fn paint_tag(
     print: Print,
     quad: &mut [f32; 8],
 ) -> u32
-    ensures { λ r. ⌜ PaintsTag (paintTag (now (plane .entry)) frame edge border word print) r (seen plane) (seen quad) ⌝ }
+    ensures { λ r. ⌜ PaintsTag (paintTag (now (plane .entry)) frame edge border word print) r (held plane) (held quad) ⌝ }
 {
     let painted = muosleap::painting::paint_tag(plane, frame, edge, border, word, print);
     put_painted(painted, quad)
@@ -150,7 +150,7 @@ pub fn paint_tag_in(
     print: Print,
     quad: &mut [f32; 8],
 ) -> u32
-    ensures { λ r. ⌜ PaintsTag (paintTagIn (now (plane .entry)) frame family word print) r (seen plane) (seen quad) ⌝ }
+    ensures { λ r. ⌜ PaintsTag (paintTagIn (now (plane .entry)) frame family word print) r (held plane) (held quad) ⌝ }
 {
     let painted = muosleap::painting::paint_tag_in(plane, frame, family, word, print);
     put_painted(painted, quad)

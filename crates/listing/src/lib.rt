@@ -20,7 +20,7 @@ ghost use Rattle.points.specs.Numbers.{quadSize};
 ghost use Rattle.listing.specs.Listing.{rowSize, badList, rowOf, cornersOf, listingOf, listing};
 
 // The numbers of a row, and the most quads of a list.
-const ROW_SIZE: usize = 3;
+pub const ROW_SIZE: usize = 3;
 
 const MOST_QUADS: usize = 1024;
 

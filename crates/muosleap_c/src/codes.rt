@@ -5,13 +5,13 @@ ghost use Rattle.refusals.specs.Outcome.{number};
 ghost use Rattle.muosleap.specs.Codes.{turned, bestTag};
 ghost use Rattle.muosleap.specs.Likeness.{checkLikeness};
 ghost use Rattle.muosleap.specs.BitCode.{bitCode};
-ghost use Rattle.outputs.specs.Outputs.{Gives, whole, seen};
+ghost use Rattle.outputs.specs.Outputs.{Gives, whole, held};
 ghost use Rattle.c_tags.specs.Tags.{FindsTag};
 ghost use Rattle.muosleap_c.specs.Structs.{tableOf};
 
 #[no_mangle]
 pub extern "C" fn muosleap_rotate_bits(bits: u64, edge: u8, word: &mut u64) -> u32
-    ensures { λ r. ⌜ Gives (turned bits edge) whole r (seen word) ⌝ }
+    ensures { λ r. ⌜ Gives (turned bits edge) whole r (held word) ⌝ }
 {
     c_tags::codes::rotate_bits(bits, edge, word)
 }
@@ -25,7 +25,7 @@ pub extern "C" fn muosleap_best_tag(
     id: &mut usize,
     turn: &mut u8,
 ) -> u32
-    ensures { λ r. ⌜ FindsTag (bestTag bits «hamming_distance» (now (codes .entry)) edge) r (seen id) (seen turn) ⌝ }
+    ensures { λ r. ⌜ FindsTag (bestTag bits «hamming_distance» (now (codes .entry)) edge) r (held id) (held turn) ⌝ }
 {
     c_tags::codes::best_tag(bits, hamming_distance, codes, edge, id, turn)
 }
@@ -49,7 +49,7 @@ pub extern "C" fn muosleap_check_likeness(
 
 #[no_mangle]
 pub extern "C" fn muosleap_bit_code(levels: &[u8], band: u8, allowed: u32, word: &mut u64) -> u32
-    ensures { λ r. ⌜ Gives (bitCode (now (levels .entry)) band allowed) whole r (seen word) ⌝ }
+    ensures { λ r. ⌜ Gives (bitCode (now (levels .entry)) band allowed) whole r (held word) ⌝ }
 {
     c_tags::codes::bit_code(levels, band, allowed, word)
 }

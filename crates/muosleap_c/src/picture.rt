@@ -4,7 +4,7 @@ ghost use lib.ListN.{length};
 ghost use Rattle.muosleap_picture.specs.ImageUtil.{gaussianBlur, hessianResponse, responseThreshold};
 ghost use Rattle.muosleap_picture.specs.SaddleClusters.{initSaddleClusters};
 ghost use Rattle.muosleap_picture.specs.ClusterCenter.{clusterCenter};
-ghost use Rattle.outputs.specs.Outputs.{Gives, whole, seen};
+ghost use Rattle.outputs.specs.Outputs.{Gives, whole, held};
 ghost use Rattle.c_picture.specs.Picture.{Blurs, Responds, FindsClusters, coordinates};
 ghost use Rattle.muosleap_c.specs.Structs.{shapeOf};
 
@@ -18,7 +18,7 @@ pub extern "C" fn muosleap_gaussian_blur_f32(
     out: &mut [f32],
 ) -> u32
     ensures { λ r. ⌜ Blurs (gaussianBlur (now (img .entry)) (shapeOf width height) (now (weights .entry)) (now (temp .entry)) (now (out .entry)))
-        r (seen temp) (seen out) ⌝ }
+        r (held temp) (held out) ⌝ }
 {
     let shape = Shape { width, height };
     c_picture::gaussian_blur_f32(img, shape, weights, temp, out)
@@ -31,7 +31,7 @@ pub extern "C" fn muosleap_hessian_response(
     height: usize,
     out: &mut [f32],
 ) -> u32
-    ensures { λ r. ⌜ Responds (hessianResponse (now (img .entry)) (shapeOf width height) (now (out .entry))) r (seen out) ⌝ }
+    ensures { λ r. ⌜ Responds (hessianResponse (now (img .entry)) (shapeOf width height) (now (out .entry))) r (held out) ⌝ }
 {
     let shape = Shape { width, height };
     c_picture::hessian_response(img, shape, out)
@@ -44,7 +44,7 @@ pub extern "C" fn muosleap_response_threshold(
     height: usize,
     threshold: &mut f32,
 ) -> u32
-    ensures { λ r. ⌜ Gives (responseThreshold (now (response .entry)) (shapeOf width height)) whole r (seen threshold) ⌝ }
+    ensures { λ r. ⌜ Gives (responseThreshold (now (response .entry)) (shapeOf width height)) whole r (held threshold) ⌝ }
 {
     let shape = Shape { width, height };
     c_picture::response_threshold(response, shape, threshold)
@@ -62,7 +62,7 @@ pub extern "C" fn muosleap_init_saddle_clusters(
 ) -> u32
     ensures { λ r. ⌜ FindsClusters
         (initSaddleClusters (now («h_mat» .entry)) (shapeOf width height) threshold (length (now (worklist .entry))) (now (rows .entry)))
-        r (seen «h_mat») (seen worklist) (seen rows) (seen total) ⌝ }
+        r (held «h_mat») (held worklist) (held rows) (held total) ⌝ }
 {
     let shape = Shape { width, height };
     c_picture::init_saddle_clusters(h_mat, shape, threshold, worklist, rows, total)
@@ -75,7 +75,7 @@ pub extern "C" fn muosleap_cluster_center(
     count: u64,
     center: &mut [f32; 2],
 ) -> u32
-    ensures { λ r. ⌜ Gives (clusterCenter «sum_x» «sum_y» count) coordinates r (seen center) ⌝ }
+    ensures { λ r. ⌜ Gives (clusterCenter «sum_x» «sum_y» count) coordinates r (held center) ⌝ }
 {
     c_picture::cluster_center(sum_x, sum_y, count, center)
 }

@@ -2,11 +2,12 @@
 use painter::Print;
 use refusals::Frame;
 use tables::Family;
+ghost use Rattle.points.specs.Numbers.{quadAt};
 ghost use Rattle.muosleap.specs.Quad.{decodeQuad, decodeQuadIn};
 ghost use Rattle.muosleap.specs.Quads.{decodeQuads, decodeQuadsIn};
 ghost use Rattle.muosleap.specs.PaintTag.{paintTag, paintTagIn};
-ghost use Rattle.outputs.specs.Outputs.{seen};
-ghost use Rattle.c_tags.specs.Tags.{quadOf, ReadsTag, ReadsTags, PaintsTag};
+ghost use Rattle.outputs.specs.Outputs.{held};
+ghost use Rattle.c_tags.specs.Tags.{ReadsTag, ReadsTags, PaintsTag};
 ghost use Rattle.muosleap_c.specs.Structs.{frameOf, tableOf, printOf};
 
 #[no_mangle]
@@ -24,8 +25,8 @@ pub extern "C" fn muosleap_try_decode_quad(
     corners: &mut [f32; 8],
 ) -> u32
     ensures { λ r. ⌜ ReadsTag
-        (decodeQuad (now (plane .entry)) (frameOf width height) (tableOf edge border «hamming_distance») (now (codes .entry)) (quadOf (now (quad .entry))))
-        r (seen id) (seen turn) (seen corners) ⌝ }
+        (decodeQuad (now (plane .entry)) (frameOf width height) (tableOf edge border «hamming_distance») (now (codes .entry)) (quadAt (now (quad .entry)) 0))
+        r (held id) (held turn) (held corners) ⌝ }
 {
     let family = Family {
         edge,
@@ -47,8 +48,8 @@ pub extern "C" fn muosleap_try_decode_quad_in(
     turn: &mut u8,
     corners: &mut [f32; 8],
 ) -> u32
-    ensures { λ r. ⌜ ReadsTag (decodeQuadIn (now (plane .entry)) (frameOf width height) family (quadOf (now (quad .entry))))
-        r (seen id) (seen turn) (seen corners) ⌝ }
+    ensures { λ r. ⌜ ReadsTag (decodeQuadIn (now (plane .entry)) (frameOf width height) family (quadAt (now (quad .entry)) 0))
+        r (held id) (held turn) (held corners) ⌝ }
 {
     let frame = Frame { width, height };
     c_tags::quads::try_decode_quad_in(plane, frame, family, quad, id, turn, corners)
@@ -70,7 +71,7 @@ pub extern "C" fn muosleap_try_decode_quads(
     ensures { λ r. ⌜ ReadsTags
         (decodeQuads (now (plane .entry)) (frameOf width height) (tableOf edge border «hamming_distance») (now (codes .entry))
         (now (quads .entry)) (now (rows .entry)) (now (corners .entry)))
-        r (seen rows) (seen corners) ⌝ }
+        r (held rows) (held corners) ⌝ }
 {
     let family = Family {
         edge,
@@ -93,7 +94,7 @@ pub extern "C" fn muosleap_try_decode_quads_in(
 ) -> u32
     ensures { λ r. ⌜ ReadsTags
         (decodeQuadsIn (now (plane .entry)) (frameOf width height) family (now (quads .entry)) (now (rows .entry)) (now (corners .entry)))
-        r (seen rows) (seen corners) ⌝ }
+        r (held rows) (held corners) ⌝ }
 {
     let frame = Frame { width, height };
     c_tags::quads::try_decode_quads_in(plane, frame, family, quads, rows, corners)
@@ -116,7 +117,7 @@ pub extern "C" fn muosleap_paint_tag(
     quad: &mut [f32; 8],
 ) -> u32
     ensures { λ r. ⌜ PaintsTag (paintTag (now (plane .entry)) (frameOf width height) edge border word (printOf x y cell turn light dark))
-        r (seen plane) (seen quad) ⌝ }
+        r (held plane) (held quad) ⌝ }
 {
     let print = Print {
         x,
@@ -146,7 +147,7 @@ pub extern "C" fn muosleap_paint_tag_in(
     quad: &mut [f32; 8],
 ) -> u32
     ensures { λ r. ⌜ PaintsTag (paintTagIn (now (plane .entry)) (frameOf width height) family word (printOf x y cell turn light dark))
-        r (seen plane) (seen quad) ⌝ }
+        r (held plane) (held quad) ⌝ }
 {
     let print = Print {
         x,

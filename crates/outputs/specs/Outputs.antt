@@ -11,8 +11,8 @@ pub record Output (A : Type 0) : Type 0 where
   pub after : A
 
 -- of an output that is lent by reference
-abbrev pub seen : {A : Type 0} → Both (RefT A) (RefT A) → Output A
-seen lent = record { before = now (lent .entry); after = now (lent .exit) }
+abbrev pub held : {A : Type 0} → Both (RefT A) (RefT A) → Output A
+held lent = record { before = now (lent .entry); after = now (lent .exit) }
 
 -- a part of the answer where it is accepted, and what there was before where it is refused
 abbrev pub partOr : {A B : Type 0} → (A → B) → B → Outcome A → B

@@ -6,7 +6,7 @@ use Prim.Native.Nat.{ℕ, _+_, _-_, _<_, _≤_}
 use native.Mathlib.Omega.{arith}
 use lib.ListN.{length, getD}
 use Rattle.lists.proofs.Bools.{same-test, and-left, and-right, overlay}
-use Rattle.refusals.specs.Pixels.{badFrame, placeOf, columnOf, rowOf}
+use Rattle.refusals.specs.Pixels.{badFrame, placeOf, columnOf, lineOf}
 use Rattle.refusals.specs.declared.Frame.{Frame}
 use Rattle.refusals.proofs.Pixels.{place-column, place-row, byte-place, place-beside, good-frame}
 use Rattle.painter.specs.Picture.{repainted, between, runFilled, inBlock, blockPixel, filled}
@@ -47,28 +47,28 @@ no-columns x0 y0 high x y = ap (λ (t : Bool). t && between y0 high y) (between-
 -- ---- a run of bytes within a row is a block of one row
 
 module _ (frame : Frame) (x y n k : ℕ) (fits : x + n ≤ frame .width) where
-  run-to-block : Within (placeOf frame x y) n k → In x y n 1 (columnOf frame k) (rowOf frame k)
+  run-to-block : Within (placeOf frame x y) n k → In x y n 1 (columnOf frame k) (lineOf frame k)
   run-to-block i =
       let d = k - placeOf frame x y in
       let wide : x + d < frame .width = omega (arith, i .from, i .to) in
       let e : placeOf frame (x + d) y ≡ k = place-beside frame x y d ∙ omega (arith, i .from) in
       let column : columnOf frame k ≡ x + d = ap (columnOf frame) (sym e) ∙ place-column frame (x + d) y wide in
-      let row : rowOf frame k ≡ y = ap (rowOf frame) (sym e) ∙ place-row frame (x + d) y wide in
+      let row : lineOf frame k ≡ y = ap (lineOf frame) (sym e) ∙ place-row frame (x + d) y wide in
       record { across = record { from = omega arith; to = omega (arith, i .from, i .to) }; down = record { from = omega arith; to = omega arith } }
 
-  block-to-run : In x y n 1 (columnOf frame k) (rowOf frame k) → Within (placeOf frame x y) n k
+  block-to-run : In x y n 1 (columnOf frame k) (lineOf frame k) → Within (placeOf frame x y) n k
   block-to-run i =
-      let row : rowOf frame k ≡ y = omega (arith, i .down .from, i .down .to) in
+      let row : lineOf frame k ≡ y = omega (arith, i .down .from, i .down .to) in
       let d = columnOf frame k - x in
       let column : columnOf frame k ≡ x + d = omega (arith, i .across .from) in
       let e : placeOf frame x y + d ≡ k = sym (place-beside frame x y d) ∙ (λ j. placeOf frame (sym column j) (sym row j)) ∙ byte-place frame k in
       record { from = omega arith; to = omega (arith, i .across .to) }
 
-  run-block : between (placeOf frame x y) n k ≡ inBlock x y n 1 (columnOf frame k) (rowOf frame k)
+  run-block : between (placeOf frame x y) n k ≡ inBlock x y n 1 (columnOf frame k) (lineOf frame k)
   run-block =
-      same-test (between (placeOf frame x y) n k) (inBlock x y n 1 (columnOf frame k) (rowOf frame k))
-      (λ e. let i = run-to-block (is-within (placeOf frame x y) n k e) in block-in x y n 1 (columnOf frame k) (rowOf frame k) (i .across .from) (i .across .to) (i .down .from) (i .down .to))
-      (λ e. let i = block-to-run (is-in x y n 1 (columnOf frame k) (rowOf frame k) e) in within (placeOf frame x y) n k (i .from) (i .to))
+      same-test (between (placeOf frame x y) n k) (inBlock x y n 1 (columnOf frame k) (lineOf frame k))
+      (λ e. let i = run-to-block (is-within (placeOf frame x y) n k e) in block-in x y n 1 (columnOf frame k) (lineOf frame k) (i .across .from) (i .across .to) (i .down .from) (i .down .to))
+      (λ e. let i = block-to-run (is-in x y n 1 (columnOf frame k) (lineOf frame k) e) in within (placeOf frame x y) n k (i .from) (i .to))
 
 run-painted : (frame : Frame) (x y n shade : ℕ) (plane : List ℕ) → x + n ≤ frame .width
     → runFilled (placeOf frame x y) n shade plane ≡ repainted frame (blockPixel x y n 1 shade) plane

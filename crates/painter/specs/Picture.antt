@@ -5,7 +5,7 @@ use mathlib.Core.List.{List}
 use lib.Dec.{ltb, leb}
 use lib.ListN.{length, getD}
 use Rattle.lists.specs.Tab.{tabulate}
-use Rattle.refusals.specs.Pixels.{columnOf, rowOf}
+use Rattle.refusals.specs.Pixels.{columnOf, lineOf}
 use Rattle.refusals.specs.declared.Frame.{Frame}
 
 -- x is one of the n numbers from x0 on
@@ -19,7 +19,7 @@ runFilled start n shade bytes = tabulate (length bytes) (λ k. cond (between sta
 -- the plane after each pixel (x, y) has become `pixel x y old`, where it was `old`
 unfoldable pub repainted : Frame → (ℕ → ℕ → ℕ → ℕ) → List ℕ → List ℕ
 unfolding tabulate
-repainted frame pixel plane = tabulate (length plane) (λ k. pixel (columnOf frame k) (rowOf frame k) (getD plane k 0))
+repainted frame pixel plane = tabulate (length plane) (λ k. pixel (columnOf frame k) (lineOf frame k) (getD plane k 0))
 
 -- the block of `wide` columns and `high` rows whose upper left pixel is (x0, y0): pixel (x, y) lies in it
 abbrev pub inBlock : (x0 y0 wide high x y : ℕ) → Bool

@@ -1,5 +1,5 @@
--- Demand 3, undivided, over the definitions that the public entries are proved equal to. Each hypothesis has its sentence of
--- document 01 ("What demand 3 compares") beside it. Assumes nothing.
+-- Demand 3, undivided, over the definitions that the public entries are proved equal to. Each hypothesis has its sentence beside it, of
+-- document 01 ("What demand 3 compares") or of the demand itself. Assumes nothing.
 use mathlib.Core.Path.{_≡_}
 use mathlib.Core.List.{List}
 use Prim.Native.Nat.{ℕ, _-_, _%_, _<_}

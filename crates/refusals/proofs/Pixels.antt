@@ -5,7 +5,7 @@ use Prim.Native.Nat.{ℕ, _+_, _<_, _≤_}
 use native.Mathlib.Nat.{div-lt-iff-lt-mul, mod-lt, mul-comm, mul-le-mul-right, div-add-mod'}
 use native.Mathlib.Omega.{arith}
 use Rattle.lists.proofs.Grid.{row-of, column-of, next-row}
-use Rattle.refusals.specs.Pixels.{badFrame, placeOf, columnOf, rowOf, SmallFrame}
+use Rattle.refusals.specs.Pixels.{badFrame, placeOf, columnOf, lineOf, SmallFrame}
 use Rattle.refusals.specs.declared.Frame.{Frame}
 use Rattle.refusals.proofs.Plane.{Sides, good-plane}
 
@@ -14,11 +14,11 @@ module _ (frame : Frame) where
   pub place-column : (x y : ℕ) → x < frame .width → columnOf frame (placeOf frame x y) ≡ x
   place-column x y h = column-of (frame .width) y x h
 
-  pub place-row : (x y : ℕ) → x < frame .width → rowOf frame (placeOf frame x y) ≡ y
+  pub place-row : (x y : ℕ) → x < frame .width → lineOf frame (placeOf frame x y) ≡ y
   place-row x y h = row-of (frame .width) y x h
 
   -- and back
-  pub byte-place : (k : ℕ) → placeOf frame (columnOf frame k) (rowOf frame k) ≡ k
+  pub byte-place : (k : ℕ) → placeOf frame (columnOf frame k) (lineOf frame k) ≡ k
   byte-place k = div-add-mod' k (frame .width)
 
   -- pixels of one row stand side by side
@@ -34,7 +34,7 @@ pub record Framed (len : ℕ) (frame : Frame) : Type 0 where
   pub run-inside : (x y n : ℕ) → x + n ≤ frame .width → y < frame .height → placeOf frame x y + n ≤ len
   -- and each of its bytes is a pixel
   pub column-lt : (k : ℕ) → k < len → columnOf frame k < frame .width
-  pub row-lt : (k : ℕ) → k < len → rowOf frame k < frame .height
+  pub row-lt : (k : ℕ) → k < len → lineOf frame k < frame .height
 
 pub good-frame : {len : ℕ} {frame : Frame} → badFrame len frame ≡ false → Framed len frame
 unfolding badFrame

@@ -23,8 +23,8 @@ placeOf frame x y = y * frame .width + x
 abbrev pub columnOf : Frame → ℕ → ℕ
 columnOf frame k = k % frame .width
 
-abbrev pub rowOf : Frame → ℕ → ℕ
-rowOf frame k = k / frame .width
+abbrev pub lineOf : Frame → ℕ → ℕ
+lineOf frame k = k / frame .width
 
 -- the level at pixel (x, y)
 abbrev pub levelAt : List ℕ → Frame → ℕ → ℕ → ℕ

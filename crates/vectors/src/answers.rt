@@ -4,7 +4,9 @@ use crate::floats::pattern_of;
 use crate::rest;
 use crate::u8_at;
 use crate::u16_at;
+use listing::ROW_SIZE;
 use points::Point;
+use points::QUAD_SIZE;
 use points::Quad;
 use reader::Reading;
 
@@ -54,13 +56,13 @@ pub fn answer_of(reading: Reading) -> Answer {
 
 // Row q of a list; an answer that no reader gives where there is none.
 pub fn row_at(rows: &[u64], corners: &[f32], q: usize) -> Answer {
-    if rows.len() / 3 <= q {
+    if rows.len() / ROW_SIZE <= q {
         return refused(255);
     }
-    if corners.len() / 8 <= q {
+    if corners.len() / QUAD_SIZE <= q {
         return refused(255);
     }
-    let at = 3 * q;
+    let at = ROW_SIZE * q;
     Answer {
         refusal: rows[at],
         id: rows[at + 1],

@@ -1,9 +1,11 @@
 // Frames of one quad, of a list of quads, and of the corner test. The picture is the frame that was lent.
+use listing::ROW_SIZE;
 use muosleap::detector::try_decode_quad;
 use muosleap::detector::try_decode_quad_in;
 use muosleap::quads::Listed;
 use muosleap::quads::try_decode_quads;
 use muosleap::quads::try_decode_quads_in;
+use points::QUAD_SIZE;
 use points::Quad;
 use refusals::Frame;
 use tables::Family;
@@ -61,7 +63,7 @@ fn expected(s: &[u8], q: usize, n: usize) -> Answer {
 fn rows_alike(s: &[u8], n: usize, rows: &[u64], corners: &[f32]) -> bool {
     let mut alike = true;
     let mut q = 0;
-    while q < rows.len() / 3 {
+    while q < rows.len() / ROW_SIZE {
         alike = alike & answers::same(answers::row_at(rows, corners, q), expected(s, q, n));
         q += 1;
     }
@@ -84,8 +86,8 @@ fn listed_alike(
         picture(lent),
         u8_at(frame, 1),
         quads,
-        &mut rows[0..3 * n + 2],
-        &mut corners[0..8 * n + 2],
+        &mut rows[0..ROW_SIZE * n + 2],
+        &mut corners[0..QUAD_SIZE * n + 2],
     );
     (number_of(listed) == 0) & rows_alike(rest(frame, 3 + 32 * n), n, rows, corners)
 }
@@ -96,7 +98,14 @@ fn list_alike(frame: &[u8], lent: &[u8]) -> bool {
     let mut corners = [7.0f32; 256];
     let n = least(u8_at(frame, 2) as usize, 31);
     floats::fill(floats::EACH, 0, rest(frame, 3), &mut quads);
-    listed_alike(frame, lent, n, &quads[0..8 * n], &mut rows, &mut corners)
+    listed_alike(
+        frame,
+        lent,
+        n,
+        &quads[0..QUAD_SIZE * n],
+        &mut rows,
+        &mut corners,
+    )
 }
 
 // The number of a list's answer, 0 where it is accepted.

@@ -1,6 +1,6 @@
 //! Tables of codes: the built-in families, and tables of the host's own.
 
-/// The code lists, from the file that the proved code is compiled from.
+/// The codes of all families, from the file that the proved code is compiled from.
 #[rustfmt::skip]
 #[allow(missing_docs)]
 mod codes {
@@ -48,14 +48,15 @@ impl Family {
         self as u8
     }
 
-    /// Its codes.
+    /// Its codes: a part of the one list that has those of all families one after another.
     pub const fn codes(self) -> &'static [u64] {
-        match self {
-            Family::T16H5 => &codes::T16H5,
-            Family::T25H7 => &codes::T25H7,
-            Family::T25H9 => &codes::T25H9,
-            Family::T36H11 | Family::T36H11B1 => &codes::T36H11,
-        }
+        let (start, count) = match self {
+            Family::T16H5 => (0, 30),
+            Family::T25H7 => (30, 242),
+            Family::T25H9 => (272, 35),
+            Family::T36H11 | Family::T36H11B1 => (307, 587),
+        };
+        codes::CODES.split_at(start).1.split_at(count).0
     }
 
     /// The same family as a table.
