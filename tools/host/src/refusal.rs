@@ -143,11 +143,8 @@ impl Error for NoRefusal {}
 /// # Panics
 /// At a number that is no refusal: the archive is not the one that these wrappers were written for.
 pub(crate) fn accepted(answer: u32) -> Result<(), Refusal> {
-    if answer == 0 { Ok(()) } else { Err(refused(answer)) }
-}
-
-/// The refusal of a number other than 0. It stands apart so that an accepted call does not pay for it.
-#[cold]
-fn refused(answer: u32) -> Refusal {
-    Refusal::try_from(answer).unwrap_or_else(|unknown| panic!("libmuosleap_c.a is of another version: {unknown}"))
+    if answer == 0 {
+        return Ok(());
+    }
+    Err(Refusal::try_from(answer).unwrap_or_else(|unknown| panic!("libmuosleap_c.a is of another version: {unknown}")))
 }

@@ -7,6 +7,16 @@ mod codes {
     include!("../../../crates/tag_families/src/codes.rt");
 }
 
+/// A part of them. The families' parts are worked out when this is compiled, so that a family's table costs nothing to name.
+const fn part(start: usize, count: usize) -> &'static [u64] {
+    codes::CODES.split_at(start).1.split_at(count).0
+}
+
+const T16H5: &[u64] = part(0, 30);
+const T25H7: &[u64] = part(30, 242);
+const T25H9: &[u64] = part(272, 35);
+const T36H11: &[u64] = part(307, 587);
+
 /// A table of codes with what describes its tags: a table of the host's own, or a family's.
 ///
 /// Refusal 6 meets a table with an edge outside 1 to 8, a border outside 1 to 4, a match threshold outside 1 to 64, no code or more
@@ -48,15 +58,14 @@ impl Family {
         self as u8
     }
 
-    /// Its codes: a part of the one list that has those of all families one after another.
+    /// Its codes.
     pub const fn codes(self) -> &'static [u64] {
-        let (start, count) = match self {
-            Family::T16H5 => (0, 30),
-            Family::T25H7 => (30, 242),
-            Family::T25H9 => (272, 35),
-            Family::T36H11 | Family::T36H11B1 => (307, 587),
-        };
-        codes::CODES.split_at(start).1.split_at(count).0
+        match self {
+            Family::T16H5 => T16H5,
+            Family::T25H7 => T25H7,
+            Family::T25H9 => T25H9,
+            Family::T36H11 | Family::T36H11B1 => T36H11,
+        }
     }
 
     /// The same family as a table.
