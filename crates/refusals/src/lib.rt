@@ -3,7 +3,7 @@
 ghost use mathlib.Core.Path.{_≡_};
 ghost use Prim.Native.Nat.{_≤_};
 ghost use Rattle.refusals.specs.Plane.{badSides, badPlane};
-ghost use Rattle.refusals.specs.Pixels.{packedFrame, badFrame, placeOf, SmallFrame};
+ghost use Rattle.refusals.specs.Pixels.{packedFrame, badPitch, badFrame, placeOf, SmallFrame};
 
 // The sides of a plane of floats.
 pub struct Shape {
@@ -11,10 +11,12 @@ pub struct Shape {
     pub height: usize,
 }
 
-// The sides of an 8-bit plane.
+// The sides of an 8-bit plane, and how many bytes after the first pixel of a line that of the next line comes. What lies
+// between the lines is filler, which is never read and never written.
 pub struct Frame {
     pub width: usize,
     pub height: usize,
+    pub pitch: usize,
 }
 
 fn bad_sides(width: usize, height: usize) -> bool
@@ -42,18 +44,40 @@ pub fn bad_plane(len: usize, width: usize, height: usize) -> bool
     len != width * height
 }
 
-// An 8-bit plane whose rows follow each other.
+// An 8-bit plane without filler.
 pub fn packed_frame(width: usize, height: usize) -> Frame
     ensures { λ r. ⌜ r ≡ packedFrame width height ⌝ }
 {
-    Frame { width, height }
+    Frame {
+        width,
+        height,
+        pitch: width,
+    }
+}
+
+fn bad_pitch(width: usize, pitch: usize) -> bool
+    ensures { λ r. ⌜ r ≡ badPitch width pitch ⌝ }
+{
+    if pitch < width {
+        return true;
+    }
+    8192 < pitch
 }
 
 // Refusal 1 for an 8-bit plane of `len` bytes.
 pub fn bad_frame(len: usize, frame: Frame) -> bool
     ensures { λ r. ⌜ r ≡ badFrame len frame ⌝ }
 {
-    bad_plane(len, frame.width, frame.height)
+    let width = frame.width;
+    let height = frame.height;
+    let pitch = frame.pitch;
+    if bad_sides(width, height) {
+        return true;
+    }
+    if bad_pitch(width, pitch) {
+        return true;
+    }
+    len != pitch * (height - 1) + width
 }
 
 // The byte of an 8-bit plane that is pixel (x, y).
@@ -61,5 +85,5 @@ pub fn place_of(frame: Frame, x: usize, y: usize) -> usize
     requires { ⌜ SmallFrame frame × (x ≤ 4096) × (y ≤ 4096) ⌝ }
     ensures { λ r. ⌜ r ≡ placeOf frame x y ⌝ }
 {
-    y * frame.width + x
+    y * frame.pitch + x
 }

@@ -1,4 +1,4 @@
--- A place is at most 4096 × 4096 + 4096. Assumes nothing.
+-- A place is at most 4096 × 8192 + 4096. Assumes nothing.
 use native.Mathlib.Nat.{mul-le-mul}
 use native.Mathlib.Omega.{arith}
 use borrow.Author.Needs.{needs}
