@@ -1,17 +1,18 @@
 -- Blocks of pixels that are painted one after another. Assumes nothing.
 use mathlib.Core.Path.{_≡_, refl, sym, ap, ap₂, _∙_}
-use mathlib.Core.Bool.{Bool, true, false, _&&_, _||_, cond, and-or-distrib-left, and-or-distrib-right, and-false}
+use mathlib.Core.Bool.{Bool, true, false, _&&_, _||_, cond, and-or-distrib-left, and-or-distrib-right, and-false, true≢false}
 use mathlib.Core.List.{List}
 use Prim.Native.Nat.{ℕ, _+_, _-_, _<_, _≤_}
 use native.Mathlib.Omega.{arith}
+use borrow.Author.Tests.{ltb-false}
 use lib.ListN.{length, getD}
 use Rattle.lists.proofs.Bools.{same-test, and-left, and-right, overlay}
-use Rattle.refusals.specs.Pixels.{badFrame, placeOf, columnOf, lineOf}
+use Rattle.refusals.specs.Pixels.{badFrame, placeOf, columnOf, lineOf, isPixel}
 use Rattle.refusals.specs.declared.Frame.{Frame}
 use Rattle.refusals.proofs.Pixels.{place-column, place-row, byte-place, place-beside, good-frame}
 use Rattle.painter.specs.Picture.{repainted, between, runFilled, inBlock, blockPixel, filled}
 use Rattle.painter.proofs.Runs.{Within, is-within, within, between-none, between-more, length-run, byte-run}
-use Rattle.painter.proofs.Picture.{is-repainted, repainted-none, repainted-twice, repainted-same}
+use Rattle.painter.proofs.Picture.{is-repainted, byte-is, repainted-none, repainted-twice, repainted-same}
 
 pub record In (x0 y0 wide high x y : ℕ) : Type 0 where
   pub across : Within x0 wide x
@@ -46,11 +47,11 @@ no-columns x0 y0 high x y = ap (λ (t : Bool). t && between y0 high y) (between-
 
 -- ---- a run of bytes within a row is a block of one row
 
-module _ (frame : Frame) (x y n k : ℕ) (fits : x + n ≤ frame .width) where
+module _ (frame : Frame) (x y n k : ℕ) (fits : x + n ≤ frame .width) (pitched : frame .width ≤ frame .pitch) where
   run-to-block : Within (placeOf frame x y) n k → In x y n 1 (columnOf frame k) (lineOf frame k)
   run-to-block i =
       let d = k - placeOf frame x y in
-      let wide : x + d < frame .width = omega (arith, i .from, i .to) in
+      let wide : x + d < frame .pitch = omega (arith, i .from, i .to) in
       let e : placeOf frame (x + d) y ≡ k = place-beside frame x y d ∙ omega (arith, i .from) in
       let column : columnOf frame k ≡ x + d = ap (columnOf frame) (sym e) ∙ place-column frame (x + d) y wide in
       let row : lineOf frame k ≡ y = ap (lineOf frame) (sym e) ∙ place-row frame (x + d) y wide in
@@ -70,11 +71,26 @@ module _ (frame : Frame) (x y n k : ℕ) (fits : x + n ≤ frame .width) where
       (λ e. let i = run-to-block (is-within (placeOf frame x y) n k e) in block-in x y n 1 (columnOf frame k) (lineOf frame k) (i .across .from) (i .across .to) (i .down .from) (i .down .to))
       (λ e. let i = block-to-run (is-in x y n 1 (columnOf frame k) (lineOf frame k) e) in within (placeOf frame x y) n k (i .from) (i .to))
 
-run-painted : (frame : Frame) (x y n shade : ℕ) (plane : List ℕ) → x + n ≤ frame .width
+-- filler is in no such run
+run-filler : (frame : Frame) (x y n k : ℕ) → x + n ≤ frame .width → frame .width ≤ frame .pitch → isPixel frame k ≡ false → between (placeOf frame x y) n k ≡ false
+run-filler frame x y n k fits pitched e =
+    same-test (between (placeOf frame x y) n k) false
+    (λ b.
+    let i = run-to-block frame x y n k fits pitched (is-within (placeOf frame x y) n k b) in
+    let beyond = ltb-false (columnOf frame k) (frame .width) e in
+    absurd (omega (arith, i .across .to)))
+    (λ b. absurd (true≢false (sym b)))
+
+run-painted : (frame : Frame) (x y n shade : ℕ) (plane : List ℕ) → x + n ≤ frame .width → frame .width ≤ frame .pitch
     → runFilled (placeOf frame x y) n shade plane ≡ repainted frame (blockPixel x y n 1 shade) plane
-run-painted frame x y n shade plane fits =
+run-painted frame x y n shade plane fits pitched =
     is-repainted frame (blockPixel x y n 1 shade) plane (runFilled (placeOf frame x y) n shade plane) (length-run (placeOf frame x y) shade plane n)
-    (λ k b. byte-run (placeOf frame x y) shade plane n k b ∙ ap (λ (t : Bool). cond t shade (getD plane k 0)) (run-block frame x y n k fits))
+    (λ k b.
+    let run = byte-run (placeOf frame x y) shade plane n k b in
+    let byte : Bool → ℕ = λ t. cond t shade (getD plane k 0) in
+    byte-is frame (blockPixel x y n 1 shade) k (getD plane k 0) (getD (runFilled (placeOf frame x y) n shade plane) k 0)
+    (λ _. run ∙ ap byte (run-block frame x y n k fits pitched))
+    (λ e. run ∙ ap byte (run-filler frame x y n k fits pitched e)))
 
 -- ---- the loop that paints a block row by row
 
@@ -83,10 +99,10 @@ module _ (frame : Frame) (x y wide shade : ℕ) (plane : List ℕ) where
   block-none =
       repainted-none frame (blockPixel x y wide 0 shade) plane (λ px py old. ap (λ (t : Bool). cond t shade old) (no-rows x y wide px py))
 
-  pub block-more : (n : ℕ) (out next : List ℕ) → x + wide ≤ frame .width → out ≡ repainted frame (blockPixel x y wide n shade) plane
+  pub block-more : (n : ℕ) (out next : List ℕ) → x + wide ≤ frame .width → frame .width ≤ frame .pitch → out ≡ repainted frame (blockPixel x y wide n shade) plane
       → next ≡ runFilled (placeOf frame x (y + n)) wide shade out → next ≡ repainted frame (blockPixel x y wide (n + 1) shade) plane
-  block-more n out next fits e r =
-      r ∙ run-painted frame x (y + n) wide shade out fits
+  block-more n out next fits pitched e r =
+      r ∙ run-painted frame x (y + n) wide shade out fits pitched
       ∙ ap (repainted frame (blockPixel x (y + n) wide 1 shade)) e
       ∙ repainted-twice frame (blockPixel x y wide n shade) (blockPixel x (y + n) wide 1 shade) (blockPixel x y wide (n + 1) shade) plane (λ px py old.
       overlay (inBlock x y wide n px py) (inBlock x (y + n) wide 1 px py) shade shade old (λ t. refl)

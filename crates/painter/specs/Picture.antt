@@ -5,7 +5,7 @@ use mathlib.Core.List.{List}
 use lib.Dec.{ltb, leb}
 use lib.ListN.{length, getD}
 use Rattle.lists.specs.Tab.{tabulate}
-use Rattle.refusals.specs.Pixels.{columnOf, lineOf}
+use Rattle.refusals.specs.Pixels.{columnOf, lineOf, isPixel}
 use Rattle.refusals.specs.declared.Frame.{Frame}
 
 -- x is one of the n numbers from x0 on
@@ -16,10 +16,14 @@ between x0 n x = leb x0 x && ltb x (x0 + n)
 abbrev pub runFilled : (start n shade : ℕ) → List ℕ → List ℕ
 runFilled start n shade bytes = tabulate (length bytes) (λ k. cond (between start n k) shade (getD bytes k 0))
 
--- the plane after each pixel (x, y) has become `pixel x y old`, where it was `old`
+-- byte k, which was `old`, after each pixel (x, y) has become `pixel x y old`: "The painter leaves filler as it found it."
+abbrev pub repaintedByte : Frame → (ℕ → ℕ → ℕ → ℕ) → (k old : ℕ) → ℕ
+repaintedByte frame pixel k old = cond (isPixel frame k) (pixel (columnOf frame k) (lineOf frame k) old) old
+
+-- the plane afterwards
 unfoldable pub repainted : Frame → (ℕ → ℕ → ℕ → ℕ) → List ℕ → List ℕ
 unfolding tabulate
-repainted frame pixel plane = tabulate (length plane) (λ k. pixel (columnOf frame k) (lineOf frame k) (getD plane k 0))
+repainted frame pixel plane = tabulate (length plane) (λ k. repaintedByte frame pixel k (getD plane k 0))
 
 -- the block of `wide` columns and `high` rows whose upper left pixel is (x0, y0): pixel (x, y) lies in it
 abbrev pub inBlock : (x0 y0 wide high x y : ℕ) → Bool

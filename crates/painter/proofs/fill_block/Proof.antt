@@ -22,7 +22,7 @@ loop-holds c = let a = c .before .args in (omega arith, block-none (a .frame) (a
 place-of-requires : tie.Need-place-of-requires Inv-loop μ-loop
 place-of-requires c κs =
     let g = good-frame (c .before .before .before .before .pre .0) in
-    (g .small, omega (arith, g .sides .width-le), omega (arith, g .sides .height-le))
+    (g .pitched .at-most, omega (arith, g .sides .width-le), omega (arith, g .sides .height-le))
 
 fill-run-requires : tie.Need-fill-run-requires Inv-loop μ-loop
 fill-run-requires c κs =
@@ -39,7 +39,7 @@ loop-again c =
     let s = l .before .before in
     let a = s .args in
     let run = f .fill-run .ensures ∙ ap (λ (k : ℕ). runFilled k (a .wide) (a .shade) (l .loop .plane)) (f .before .place-of .ensures) in
-    (omega arith, block-more (a .frame) (a .x) (a .y) (a .wide) (a .shade) (a .plane .now) (l .loop .i) (l .loop .plane) (f .fill-run .last .0) (s .pre .1) (l .loop .inv .1) run)
+    (omega arith, block-more (a .frame) (a .x) (a .y) (a .wide) (a .shade) (a .plane .now) (l .loop .i) (l .loop .plane) (f .fill-run .last .0) (s .pre .1) (good-frame (s .pre .0) .pitched .at-least) (l .loop .inv .1) run)
 
 same-length : tie.Need-same-length Inv-loop μ-loop
 same-length c =

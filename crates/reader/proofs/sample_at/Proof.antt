@@ -50,7 +50,7 @@ returns-2 c =
 place-of-requires : tie.Need-place-of-requires
 place-of-requires c κs =
     let g = good-frame (start (c .before .before .before .before) .pre .0 .framed) in
-    (g .small, omega (arith, c .before .before .if1 .left, g .sides .width-le), omega (arith, c .if2 .left, g .sides .height-le))
+    (g .pitched .at-most, omega (arith, c .before .before .if1 .left, g .sides .width-le), omega (arith, c .if2 .left, g .sides .height-le))
 
 shared-slice-read-t15 : tie.Need-shared-slice-read-t15
 shared-slice-read-t15 c =
