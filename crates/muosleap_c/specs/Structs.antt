@@ -5,8 +5,8 @@ use Rattle.refusals.specs.declared.Shape.{Shape}
 use Rattle.tables.specs.declared.Family.{Family}
 use Rattle.painter.specs.declared.Print.{Print}
 
-abbrev pub frameOf : (width height : ℕ) → Frame
-frameOf width height = record { width = width; height = height }
+abbrev pub frameOf : (width height pitch : ℕ) → Frame
+frameOf width height pitch = record { width = width; height = height; pitch = pitch }
 
 abbrev pub shapeOf : (width height : ℕ) → Shape
 shapeOf width height = record { width = width; height = height }

@@ -15,6 +15,7 @@ pub extern "C" fn muosleap_try_decode_quad(
     plane: &[u8],
     width: usize,
     height: usize,
+    pitch: usize,
     edge: u8,
     border: u8,
     hamming_distance: u8,
@@ -25,7 +26,7 @@ pub extern "C" fn muosleap_try_decode_quad(
     corners: &mut [f32; 8],
 ) -> u32
     ensures { λ r. ⌜ ReadsTag
-        (decodeQuad (now (plane .entry)) (frameOf width height) (tableOf edge border «hamming_distance») (now (codes .entry)) (quadAt (now (quad .entry)) 0))
+        (decodeQuad (now (plane .entry)) (frameOf width height pitch) (tableOf edge border «hamming_distance») (now (codes .entry)) (quadAt (now (quad .entry)) 0))
         r (held id) (held turn) (held corners) ⌝ }
 {
     let family = Family {
@@ -33,7 +34,11 @@ pub extern "C" fn muosleap_try_decode_quad(
         border,
         hamming_distance,
     };
-    let frame = Frame { width, height };
+    let frame = Frame {
+        width,
+        height,
+        pitch,
+    };
     c_tags::quads::try_decode_quad(plane, frame, family, codes, quad, id, turn, corners)
 }
 
@@ -42,16 +47,21 @@ pub extern "C" fn muosleap_try_decode_quad_in(
     plane: &[u8],
     width: usize,
     height: usize,
+    pitch: usize,
     family: u8,
     quad: &[f32; 8],
     id: &mut usize,
     turn: &mut u8,
     corners: &mut [f32; 8],
 ) -> u32
-    ensures { λ r. ⌜ ReadsTag (decodeQuadIn (now (plane .entry)) (frameOf width height) family (quadAt (now (quad .entry)) 0))
+    ensures { λ r. ⌜ ReadsTag (decodeQuadIn (now (plane .entry)) (frameOf width height pitch) family (quadAt (now (quad .entry)) 0))
         r (held id) (held turn) (held corners) ⌝ }
 {
-    let frame = Frame { width, height };
+    let frame = Frame {
+        width,
+        height,
+        pitch,
+    };
     c_tags::quads::try_decode_quad_in(plane, frame, family, quad, id, turn, corners)
 }
 
@@ -60,6 +70,7 @@ pub extern "C" fn muosleap_try_decode_quads(
     plane: &[u8],
     width: usize,
     height: usize,
+    pitch: usize,
     edge: u8,
     border: u8,
     hamming_distance: u8,
@@ -69,7 +80,7 @@ pub extern "C" fn muosleap_try_decode_quads(
     corners: &mut [f32],
 ) -> u32
     ensures { λ r. ⌜ ReadsTags
-        (decodeQuads (now (plane .entry)) (frameOf width height) (tableOf edge border «hamming_distance») (now (codes .entry))
+        (decodeQuads (now (plane .entry)) (frameOf width height pitch) (tableOf edge border «hamming_distance») (now (codes .entry))
         (now (quads .entry)) (now (rows .entry)) (now (corners .entry)))
         r (held rows) (held corners) ⌝ }
 {
@@ -78,7 +89,11 @@ pub extern "C" fn muosleap_try_decode_quads(
         border,
         hamming_distance,
     };
-    let frame = Frame { width, height };
+    let frame = Frame {
+        width,
+        height,
+        pitch,
+    };
     c_tags::quads::try_decode_quads(plane, frame, family, codes, quads, rows, corners)
 }
 
@@ -87,16 +102,21 @@ pub extern "C" fn muosleap_try_decode_quads_in(
     plane: &[u8],
     width: usize,
     height: usize,
+    pitch: usize,
     family: u8,
     quads: &[f32],
     rows: &mut [u64],
     corners: &mut [f32],
 ) -> u32
     ensures { λ r. ⌜ ReadsTags
-        (decodeQuadsIn (now (plane .entry)) (frameOf width height) family (now (quads .entry)) (now (rows .entry)) (now (corners .entry)))
+        (decodeQuadsIn (now (plane .entry)) (frameOf width height pitch) family (now (quads .entry)) (now (rows .entry)) (now (corners .entry)))
         r (held rows) (held corners) ⌝ }
 {
-    let frame = Frame { width, height };
+    let frame = Frame {
+        width,
+        height,
+        pitch,
+    };
     c_tags::quads::try_decode_quads_in(plane, frame, family, quads, rows, corners)
 }
 
@@ -105,6 +125,7 @@ pub extern "C" fn muosleap_paint_tag(
     plane: &mut [u8],
     width: usize,
     height: usize,
+    pitch: usize,
     edge: u8,
     border: u8,
     word: u64,
@@ -116,7 +137,7 @@ pub extern "C" fn muosleap_paint_tag(
     dark: u8,
     quad: &mut [f32; 8],
 ) -> u32
-    ensures { λ r. ⌜ PaintsTag (paintTag (now (plane .entry)) (frameOf width height) edge border word (printOf x y cell turn light dark))
+    ensures { λ r. ⌜ PaintsTag (paintTag (now (plane .entry)) (frameOf width height pitch) edge border word (printOf x y cell turn light dark))
         r (held plane) (held quad) ⌝ }
 {
     let print = Print {
@@ -127,7 +148,11 @@ pub extern "C" fn muosleap_paint_tag(
         light,
         dark,
     };
-    let frame = Frame { width, height };
+    let frame = Frame {
+        width,
+        height,
+        pitch,
+    };
     c_tags::quads::paint_tag(plane, frame, edge, border, word, print, quad)
 }
 
@@ -136,6 +161,7 @@ pub extern "C" fn muosleap_paint_tag_in(
     plane: &mut [u8],
     width: usize,
     height: usize,
+    pitch: usize,
     family: u8,
     word: u64,
     x: usize,
@@ -146,7 +172,7 @@ pub extern "C" fn muosleap_paint_tag_in(
     dark: u8,
     quad: &mut [f32; 8],
 ) -> u32
-    ensures { λ r. ⌜ PaintsTag (paintTagIn (now (plane .entry)) (frameOf width height) family word (printOf x y cell turn light dark))
+    ensures { λ r. ⌜ PaintsTag (paintTagIn (now (plane .entry)) (frameOf width height pitch) family word (printOf x y cell turn light dark))
         r (held plane) (held quad) ⌝ }
 {
     let print = Print {
@@ -157,6 +183,10 @@ pub extern "C" fn muosleap_paint_tag_in(
         light,
         dark,
     };
-    let frame = Frame { width, height };
+    let frame = Frame {
+        width,
+        height,
+        pitch,
+    };
     c_tags::quads::paint_tag_in(plane, frame, family, word, print, quad)
 }
