@@ -1,4 +1,5 @@
--- What a list reading leaves in its outputs: at each quad's place that quad's own reading, and nothing else. Assumes nothing.
+-- What a list reading leaves in its outputs: at each quad's place that quad's own reading, and nothing else; so it depends on these
+-- readings alone. Assumes nothing.
 use mathlib.Core.Path.{_≡_, refl, ap, _∙_}
 use mathlib.Core.Bool.{false}
 use mathlib.Core.List.{List, flatMap}
@@ -7,12 +8,14 @@ use native.Mathlib.Omega.{arith}
 use lib.Ieee.{Float}
 use lib.ListN.{length, getD, drop}
 use Rattle.lists.proofs.Tab.{length-tabulate, getD-tabulate}
+use Rattle.lists.proofs.Rows.{tabulate-ext}
 use Rattle.refusals.specs.Outcome.{Outcome, accepted, refused}
 use Rattle.refusals.specs.declared.Frame.{Frame}
+use Rattle.points.specs.declared.Quad.{Quad}
 use Rattle.points.specs.Numbers.{quadSize, quadAt, cornersAt}
 use Rattle.tables.specs.declared.Family.{Family}
 use Rattle.reader.specs.Reading.{Tag, reading}
-use Rattle.listing.specs.Listing.{rowSize, quadCount, badList, rowOf, cornersOf, readings, Listing, listing, rowAt}
+use Rattle.listing.specs.Listing.{rowSize, quadCount, badList, rowOf, cornersOf, readings, inFront, Listing, listingOf, listing, rowAt}
 use Rattle.listing.proofs.Flat.{length-in-front, length-flat, part-at, behind}
 use Rattle.listing.proofs.Room.{good-list}
 
@@ -78,3 +81,14 @@ module _ (plane : List ℕ) (frame : Frame) (family : Family) (codes : List ℕ)
     corners-length e =
         let all = readings plane frame family codes quads in
         length-in-front (flatMap cornersOf all) corners (omega (arith, good-list e .corner-room, length-flat cornersOf quadSize corners-size all, length-readings))
+
+-- two pictures in which every quad reads alike have the same list readings
+pub listing-depends : (plane other : List ℕ) (frame frame′ : Frame) (family : Family) (codes : List ℕ)
+    → ((quad : Quad) → reading plane frame family codes quad ≡ reading other frame′ family codes quad)
+    → (quads : List Float) (rows : List ℕ) (corners : List Float)
+    → listing plane frame family codes quads rows corners ≡ listing other frame′ family codes quads rows corners
+unfolding listing readings
+listing-depends plane other frame frame′ family codes h quads rows corners =
+    let n = quadCount (length quads) in
+    ap (λ (read : List (Outcome Tag)). listingOf (accepted n) (inFront (flatMap rowOf read) rows) (inFront (flatMap cornersOf read) corners))
+    (tabulate-ext n (read plane frame family codes quads) (read other frame′ family codes quads) (λ q l. h (quadAt quads q)))

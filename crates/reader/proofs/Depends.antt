@@ -1,10 +1,12 @@
--- A reading depends only on the corners and on the samples taken: two pictures of one shape that agree there read alike. Assumes nothing.
-use mathlib.Core.Path.{_≡_, ap}
-use mathlib.Core.Bool.{cond, not}
+-- A reading depends only on the sides, the corners and the samples taken: two pictures of one width and one height, each at a pitch of
+-- its own, read alike where they agree at the samples. Assumes nothing.
+use mathlib.Core.Path.{_≡_, refl, ap}
+use mathlib.Core.Bool.{Bool, true, false, cond, not}
 use mathlib.Core.List.{List}
 use Prim.Native.Nat.{ℕ, _<_}
+use Rattle.lists.proofs.Each.{each-at}
 use Rattle.lists.proofs.Rows.{tabulate-ext}
-use Rattle.refusals.specs.Outcome.{refused}
+use Rattle.refusals.specs.Outcome.{Outcome, refused}
 use Rattle.refusals.specs.Pixels.{levelAt}
 use Rattle.refusals.specs.declared.Frame.{Frame}
 use Rattle.points.specs.declared.Quad.{Quad}
@@ -13,21 +15,35 @@ use Rattle.places.specs.declared.Axes.{Axes}
 use Rattle.places.specs.Corners.{badCorners, cornersOutside}
 use Rattle.places.specs.Place.{axesOf}
 use Rattle.levels.specs.Levels.{codeOf}
-use Rattle.reader.specs.Reading.{samples, column, row, samplesInside, levelsOf, tagOf, reading}
+use Rattle.reader.specs.Reading.{samples, column, row, sampleInside, samplesInside, levelsOf, Tag, tagOf, reading}
 
--- two pictures agree at the samples of a quad
-pub Agree : List ℕ → List ℕ → Frame → Family → Axes → Type 0
-Agree plane other frame family axes =
-    (k : ℕ) → k < samples family → levelAt plane frame (column axes family k) (row axes family k) ≡ levelAt other frame (column axes family k) (row axes family k)
+-- the same sides at another pitch
+abbrev pub atPitch : Frame → ℕ → Frame
+atPitch frame pitch = record { width = frame .width; height = frame .height; pitch = pitch }
 
-pub levels-depend : (plane other : List ℕ) (frame : Frame) (family : Family) (axes : Axes) → Agree plane other frame family axes → levelsOf plane frame family axes ≡ levelsOf other frame family axes
-unfolding levelsOf Agree
-levels-depend plane other frame family axes h =
-    tabulate-ext (samples family) (λ k. levelAt plane frame (column axes family k) (row axes family k)) (λ k. levelAt other frame (column axes family k) (row axes family k)) h
+-- the level of sample k
+abbrev level : List ℕ → Frame → Family → Axes → ℕ → ℕ
+level plane frame family axes k = levelAt plane frame (column axes family k) (row axes family k)
 
-pub reading-depends : (plane other : List ℕ) (frame : Frame) (family : Family) (codes : List ℕ) (quad : Quad) → Agree plane other frame family (axesOf quad)
-    → reading plane frame family codes quad ≡ reading other frame family codes quad
-unfolding reading
-reading-depends plane other frame family codes quad h =
-    ap (λ (levels : List ℕ). cond (badCorners quad) (refused 8) (cond (cornersOutside (frame .width) (frame .height) quad) (refused 9) (cond (not (samplesInside frame family (axesOf quad))) (refused 10) (tagOf family codes quad (codeOf levels 10 3)))))
-    (levels-depend plane other frame family (axesOf quad) h)
+module _ (plane other : List ℕ) (frame : Frame) (pitch : ℕ) (family : Family) where
+  -- the two pictures agree at the samples of a quad that lie in them
+  pub Agree : Axes → Type 0
+  Agree axes = (k : ℕ) → k < samples family → sampleInside frame family axes k ≡ true → level plane frame family axes k ≡ level other (atPitch frame pitch) family axes k
+
+  levels-depend : (axes : Axes) → Agree axes → samplesInside frame family axes ≡ true → levelsOf plane frame family axes ≡ levelsOf other (atPitch frame pitch) family axes
+  unfolding levelsOf samplesInside Agree
+  levels-depend axes h e =
+      tabulate-ext (samples family) (level plane frame family axes) (level other (atPitch frame pitch) family axes)
+      (λ k l. h k l (each-at (samples family) (sampleInside frame family axes) e k l))
+
+  pub reading-depends : (codes : List ℕ) (quad : Quad) → Agree (axesOf quad) → reading plane frame family codes quad ≡ reading other (atPitch frame pitch) family codes quad
+  unfolding reading samplesInside
+  reading-depends codes quad h =
+      ap (λ (rest : Outcome Tag). cond (badCorners quad) (refused 8) (cond (cornersOutside (frame .width) (frame .height) quad) (refused 9) rest))
+      (sampled (samplesInside frame family (axesOf quad)) (levels-depend (axesOf quad) h))
+    where
+      sampled : (t : Bool) → (t ≡ true → levelsOf plane frame family (axesOf quad) ≡ levelsOf other (atPitch frame pitch) family (axesOf quad))
+          → cond (not t) (refused 10) (tagOf family codes quad (codeOf (levelsOf plane frame family (axesOf quad)) 10 3))
+          ≡ cond (not t) (refused 10) (tagOf family codes quad (codeOf (levelsOf other (atPitch frame pitch) family (axesOf quad)) 10 3))
+      sampled true e = ap (λ (levels : List ℕ). tagOf family codes quad (codeOf levels 10 3)) (e refl)
+      sampled false e = refl
