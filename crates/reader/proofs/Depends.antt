@@ -27,11 +27,11 @@ level plane frame family axes k = levelAt plane frame (column axes family k) (ro
 
 module _ (plane other : List ℕ) (frame : Frame) (pitch : ℕ) (family : Family) where
   -- the two pictures agree at the samples of a quad that lie in them
-  pub Agree : Axes → Type 0
+  abbrev pub Agree : Axes → Type 0
   Agree axes = (k : ℕ) → k < samples family → sampleInside frame family axes k ≡ true → level plane frame family axes k ≡ level other (atPitch frame pitch) family axes k
 
   levels-depend : (axes : Axes) → Agree axes → samplesInside frame family axes ≡ true → levelsOf plane frame family axes ≡ levelsOf other (atPitch frame pitch) family axes
-  unfolding levelsOf samplesInside Agree
+  unfolding levelsOf samplesInside
   levels-depend axes h e =
       tabulate-ext (samples family) (level plane frame family axes) (level other (atPitch frame pitch) family axes)
       (λ k l. h k l (each-at (samples family) (sampleInside frame family axes) e k l))
