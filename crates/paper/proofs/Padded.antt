@@ -1,25 +1,22 @@
--- Padded planes: their lines without filler, and what every entry makes of them. Assumes nothing.
+-- Ticket 1 of document 02: every entry makes of a padded plane what it makes of its lines without filler. Assumes nothing.
 use mathlib.Core.Path.{_≡_, refl, sym, ap, ap₂, _∙_, subst}
 use mathlib.Core.Bool.{Bool, true, false, not, _||_, cond, true≢false}
-use mathlib.Core.List.{List, [], _++_}
-use Prim.Native.Nat.{ℕ, zero, suc, _+_, _-_, _*_, _/_, _%_, _≤_, _<_}
-use native.Mathlib.Nat.{mul-comm, mod-lt, div-lt-iff-lt-mul, div-add-mod', le-refl}
-use native.Mathlib.Omega.{arith}
-use borrow.Author.Tests.{lt-ltb, le-ltb, ltb-true, eq-eqb}
-use lib.Dec.{ltb, eqb}
+use mathlib.Core.List.{List}
+use Prim.Native.Nat.{ℕ, _/_, _%_, _<_}
+use native.Mathlib.Nat.{mod-lt}
+use borrow.Author.Tests.{lt-ltb, ltb-true}
+use lib.Dec.{ltb}
 use lib.Ieee.{Float}
-use lib.ListN.{length, getD, take, drop, length-append, length-drop, List·getD-append}
-use lib.Seq.{length-take-le, getD-take, getD-drop, getD-append-add, ext-getD}
+use lib.ListN.{length, getD}
 use Rattle.lists.specs.Tab.{tabulate}
-use Rattle.lists.proofs.Grid.{next-row}
 use Rattle.lists.proofs.Rows.{tabulate-ext}
-use Rattle.lists.proofs.Bools.{and-left, and-right, or-left, or-neither}
-use Rattle.refusals.specs.Plane.{badSides, badPlane}
-use Rattle.refusals.specs.Pixels.{packedFrame, badPitch, bytesOf, badFrame, placeOf, columnOf, lineOf, isPixel, levelAt}
-use Rattle.refusals.specs.declared.Frame.{Frame}
-use Rattle.refusals.proofs.Plane.{good-sides, good-plane}
-use Rattle.refusals.proofs.Pixels.{Framed, good-frame, pixel-inside}
+use Rattle.lists.proofs.Bools.{and-left, and-right}
 use Rattle.refusals.specs.Outcome.{Outcome, accepted, refused}
+use Rattle.refusals.specs.Plane.{badPlane}
+use Rattle.refusals.specs.Pixels.{packedFrame, badFrame, levelAt}
+use Rattle.refusals.specs.declared.Frame.{Frame}
+use Rattle.refusals.proofs.Plane.{good-plane}
+use Rattle.refusals.proofs.Pixels.{good-frame}
 use Rattle.points.specs.declared.Quad.{Quad}
 use Rattle.tables.specs.Table.{badTable, badEdge, badBorder}
 use Rattle.tables.specs.declared.Family.{Family}
@@ -38,111 +35,8 @@ use Rattle.listing.proofs.Listing.{listing-depends}
 use Rattle.muosleap.specs.PaintTag.{Painting, unpainted, paintTag, paintTagIn}
 use Rattle.muosleap.specs.Quad.{decodeQuad, decodeQuadIn}
 use Rattle.muosleap.specs.Quads.{decodeQuads, decodeQuadsIn}
-use Rattle.paper.specs.Padded.{linesOf, withoutFiller, packed, SamePixels, LeavesFiller, ReadsAlike, PaintsAlike, Padded}
-
--- ---- the lines of a plane
-
-module _ (width pitch : ℕ) where
-  -- n lines, the last of them without filler, lie in so many bytes
-  Room : ℕ → List ℕ → Type 0
-  Room n bytes = (y : ℕ) → y < n → y * pitch + width ≤ length bytes
-
-  -- behind the first line
-  room-less : (n : ℕ) (bytes : List ℕ) → Room (suc n) bytes → Room n (drop pitch bytes)
-  unfolding Room
-  room-less n bytes room y h =
-      let r = room (suc y) (omega arith) in
-      omega (arith, length-drop pitch bytes, next-row pitch y, r)
-
-  first-line : (n : ℕ) (bytes : List ℕ) → Room (suc n) bytes → length (take width bytes) ≡ width
-  unfolding Room
-  first-line n bytes room = length-take-le width bytes (omega (arith, room 0 (omega arith)))
-
-  length-lines : (n : ℕ) (bytes : List ℕ) → Room n bytes → length (linesOf width pitch n bytes) ≡ n * width
-  unfolding linesOf
-  length-lines zero bytes room = omega arith
-  length-lines (suc n) bytes room =
-      length-append (take width bytes) (linesOf width pitch n (drop pitch bytes))
-      ∙ omega (arith, first-line n bytes room, length-lines n (drop pitch bytes) (room-less n bytes room), next-row width n)
-
-  -- byte x of line y
-  line-byte : (n : ℕ) (bytes : List ℕ) → Room n bytes → (x y d : ℕ) → x < width → y < n → getD (linesOf width pitch n bytes) (y * width + x) d ≡ getD bytes (y * pitch + x) d
-  unfolding linesOf
-  line-byte zero bytes room x y d hx hy = absurd (omega arith)
-  line-byte (suc n) bytes room x zero d hx hy =
-      let rest = linesOf width pitch n (drop pitch bytes) in
-      let front : zero * width + x ≡ x = omega arith in
-      let back : x ≡ zero * pitch + x = omega arith in
-      ap (λ (k : ℕ). getD (take width bytes ++ rest) k d) front
-      ∙ List·getD-append (take width bytes) rest d x (omega (arith, first-line n bytes room))
-      ∙ getD-take width bytes x d hx
-      ∙ ap (λ (k : ℕ). getD bytes k d) back
-  line-byte (suc n) bytes room x (suc y) d hx hy =
-      let rest = linesOf width pitch n (drop pitch bytes) in
-      let front : suc y * width + x ≡ length (take width bytes) + (y * width + x) = omega (arith, first-line n bytes room, next-row width y) in
-      let back : pitch + (y * pitch + x) ≡ suc y * pitch + x = omega (arith, next-row pitch y) in
-      ap (λ (k : ℕ). getD (take width bytes ++ rest) k d) front
-      ∙ getD-append-add (take width bytes) rest (y * width + x) d
-      ∙ line-byte n (drop pitch bytes) (room-less n bytes room) x y d hx (omega arith)
-      ∙ getD-drop pitch bytes (y * pitch + x) d
-      ∙ ap (λ (k : ℕ). getD bytes k d) back
-
--- two planes without filler that have the same pixels are one
-same-plane : (width height : ℕ) (a b : List ℕ) → 0 < width → length a ≡ height * width → length b ≡ height * width
-    → ((x y : ℕ) → x < width → y < height → getD a (y * width + x) 0 ≡ getD b (y * width + x) 0) → a ≡ b
-same-plane width height a b wide la lb h =
-    ext-getD 0 a b (la ∙ sym lb) (λ k l.
-    subst (λ (n : ℕ). getD a n 0 ≡ getD b n 0) (div-add-mod' k width)
-    (h (k % width) (k / width) (mod-lt k wide) (div-lt-iff-lt-mul {k = width} wide .1 (omega (arith, la)))))
-
--- ---- refusal 1, where the pitch is the width
-
-before-1 : (len width height : ℕ) → badFrame len (packedFrame width height) ≡ badPlane len width height
-unfolding badFrame badPlane
-before-1 len width height = go (badSides width height) refl
-  where
-    go : (t : Bool) → badSides width height ≡ t
-        → badSides width height || ((ltb width width || ltb 8192 width) || not (eqb len (width * (height - 1) + width))) ≡ badSides width height || not (eqb len (width * height))
-    go true e = simp e
-    go false e =
-        let s = good-sides {width = width} {height = height} e in
-        let small : width ≤ 8192 = omega (arith, s .width-le) in
-        let lines : height - 1 + 1 ≡ height = omega (arith, s .high) in
-        let whole : width * (height - 1) + width ≡ width * height =
-            omega (arith, mul-comm width (height - 1), mul-comm width height, next-row width (height - 1), ap (λ (n : ℕ). n * width) lines) in
-        ap₂ (λ (a b : Bool). badSides width height || ((a || b) || not (eqb len (width * (height - 1) + width)))) (le-ltb width width (le-refl width)) (le-ltb 8192 width small)
-        ∙ ap (λ (n : ℕ). badSides width height || not (eqb len n)) whole
-
--- ---- a plane that refusal 1 lets through
-
-good-lines : (frame : Frame) (len : ℕ) → badFrame len frame ≡ false → badPlane (frame .height * frame .width) (frame .width) (frame .height) ≡ false
-unfolding badFrame badPlane
-good-lines frame len e =
-    let w = frame .width in
-    let h = frame .height in
-    let rest = badPitch w (frame .pitch) || not (eqb len (bytesOf frame)) in
-    or-neither (badSides w h) (not (eqb (h * w) (w * h))) (or-left (badSides w h) rest e) (ap not (eq-eqb (h * w) (w * h) (mul-comm h w)))
-
-module _ (plane : List ℕ) (frame : Frame) (good : badFrame (length plane) frame ≡ false) where
-  framed : Framed (length plane) frame
-  framed = good-frame good
-
-  room : Room (frame .width) (frame .pitch) (frame .height) plane
-  unfolding Room
-  room y h = omega (arith, framed .run-inside 0 y (frame .width) (omega arith) h)
-
-  length-without : length (withoutFiller frame plane) ≡ frame .height * frame .width
-  length-without = length-lines (frame .width) (frame .pitch) (frame .height) plane room
-
-  -- each pixel is where it was
-  pixel-without : (x y : ℕ) → x < frame .width → y < frame .height → levelAt (withoutFiller frame plane) (packed frame) x y ≡ levelAt plane frame x y
-  pixel-without x y hx hy = line-byte (frame .width) (frame .pitch) (frame .height) plane room x y 0 hx hy
-
-  good-packed : badFrame (length (withoutFiller frame plane)) (packed frame) ≡ false
-  good-packed =
-      before-1 (length (withoutFiller frame plane)) (frame .width) (frame .height)
-      ∙ ap (λ (n : ℕ). badPlane n (frame .width) (frame .height)) length-without
-      ∙ good-lines frame (length plane) good
+use Rattle.paper.specs.Padded.{withoutFiller, packed, LeavesFiller, ReadsAlike, PaintsAlike, Padded}
+use Rattle.paper.proofs.Lines.{same-plane, before-1, framed, length-without, pixel-without, good-packed, same-packed, same-lines}
 
 -- ---- readings
 
@@ -163,21 +57,21 @@ module _ (plane : List ℕ) (frame : Frame) (good : badFrame (length plane) fram
       → listing plane frame family codes quads rows corners ≡ listing (withoutFiller frame plane) (packed frame) family codes quads rows corners
   listing-lines = listing-depends plane (withoutFiller frame plane) frame (packed frame) family codes reading-lines
 
--- an entry goes on behind refusal 1, on both planes
-behind-1 : {A : Type 0} (one on on′ : A) (t t′ : Bool) → t ≡ false → t′ ≡ false → on ≡ on′ → cond t one on ≡ cond t′ one on′
-behind-1 one on on′ t t′ p q e = ap (λ (b : Bool). cond b one on) p ∙ e ∙ sym (ap (λ (b : Bool). cond b one on′) q)
-
 module _ (plane : List ℕ) (frame : Frame) (good : badFrame (length plane) frame ≡ false) where
+  -- an entry goes on behind refusal 1, on the plane and on its lines
+  behind-1 : {A : Type 0} (one on on′ : A) → on ≡ on′ → cond (badFrame (length plane) frame) one on ≡ cond (badFrame (length (withoutFiller frame plane)) (packed frame)) one on′
+  behind-1 one on on′ e = ap (λ (b : Bool). cond b one on) good ∙ e ∙ sym (ap (λ (b : Bool). cond b one on′) (good-packed plane frame good))
+
   quad-lines : (family : Family) (codes : List ℕ) (quad : Quad) → decodeQuad plane frame family codes quad ≡ decodeQuad (withoutFiller frame plane) (packed frame) family codes quad
   unfolding decodeQuad
   quad-lines family codes quad =
-      behind-1 (refused 1) _ _ (badFrame (length plane) frame) (badFrame (length (withoutFiller frame plane)) (packed frame)) good (good-packed plane frame good)
+      behind-1 (refused 1) _ _
       (ap (λ (o : Outcome Tag). cond (badTable family codes) (refused 6) o) (reading-lines plane frame good family codes quad))
 
   quad-in-lines : (number : ℕ) (quad : Quad) → decodeQuadIn plane frame number quad ≡ decodeQuadIn (withoutFiller frame plane) (packed frame) number quad
   unfolding decodeQuadIn
   quad-in-lines number quad =
-      behind-1 (refused 1) _ _ (badFrame (length plane) frame) (badFrame (length (withoutFiller frame plane)) (packed frame)) good (good-packed plane frame good)
+      behind-1 (refused 1) _ _
       (ap (λ (o : Outcome Tag). cond (not (isFamily number)) (refused 6) o) (reading-lines plane frame good (familyOf number) (codesOf number) quad))
 
   module _ (quads : List Float) (rows : List ℕ) (corners : List Float) where
@@ -190,13 +84,13 @@ module _ (plane : List ℕ) (frame : Frame) (good : badFrame (length plane) fram
         → decodeQuads plane frame family codes quads rows corners ≡ decodeQuads (withoutFiller frame plane) (packed frame) family codes quads rows corners
     unfolding decodeQuads
     quads-lines family codes =
-        behind-1 (listingOf (refused 1) rows corners) _ _ (badFrame (length plane) frame) (badFrame (length (withoutFiller frame plane)) (packed frame)) good (good-packed plane frame good)
+        behind-1 (listingOf (refused 1) rows corners) _ _
         (ap (listed (badTable family codes)) (listing-lines plane frame good family codes quads rows corners))
 
     quads-in-lines : (number : ℕ) → decodeQuadsIn plane frame number quads rows corners ≡ decodeQuadsIn (withoutFiller frame plane) (packed frame) number quads rows corners
     unfolding decodeQuadsIn
     quads-in-lines number =
-        behind-1 (listingOf (refused 1) rows corners) _ _ (badFrame (length plane) frame) (badFrame (length (withoutFiller frame plane)) (packed frame)) good (good-packed plane frame good)
+        behind-1 (listingOf (refused 1) rows corners) _ _
         (ap (listed (not (isFamily number))) (listing-lines plane frame good (familyOf number) (codesOf number) quads rows corners))
 
 -- ---- paintings
@@ -233,11 +127,16 @@ leaves-filler frame f plane = record { as-long = length-repainted frame f plane;
 abbrev Both : Frame → Painting → Painting → Type 0
 Both frame a b = (a .answer ≡ b .answer) × (withoutFiller frame (a .plane) ≡ b .plane)
 
-both-behind : (frame : Frame) (plane lines : List ℕ) (on on′ : Painting) (t t′ : Bool) → t ≡ false → t′ ≡ false → Both frame on on′
-    → Both frame (cond t (unpainted plane 1) on) (cond t′ (unpainted lines 1) on′)
-both-behind frame plane lines on on′ true t′ p q b = absurd (true≢false p)
-both-behind frame plane lines on on′ false true p q b = absurd (true≢false q)
-both-behind frame plane lines on on′ false false p q b = b
+-- what they have behind refusal 1 they have
+both-behind : (plane : List ℕ) (frame : Frame) → badFrame (length plane) frame ≡ false → (on on′ : Painting) → Both frame on on′
+    → Both frame (cond (badFrame (length plane) frame) (unpainted plane 1) on)
+    (cond (badFrame (length (withoutFiller frame plane)) (packed frame)) (unpainted (withoutFiller frame plane) 1) on′)
+both-behind plane frame good on on′ both = go (badFrame (length plane) frame) (badFrame (length (withoutFiller frame plane)) (packed frame)) good (good-packed plane frame good)
+  where
+    go : (t t′ : Bool) → t ≡ false → t′ ≡ false → Both frame (cond t (unpainted plane 1) on) (cond t′ (unpainted (withoutFiller frame plane) 1) on′)
+    go true t′ p q = absurd (true≢false p)
+    go false true p q = absurd (true≢false q)
+    go false false p q = both
 
 module _ (plane : List ℕ) (frame : Frame) where
   -- 6 and 14 are tested alike, and refused paintings leave the plane
@@ -252,8 +151,7 @@ module _ (plane : List ℕ) (frame : Frame) where
         → Both frame (paintTag plane frame edge border word print) (paintTag (withoutFiller frame plane) (packed frame) edge border word print)
     unfolding paintTag badPrint
     paint-lines good =
-        both-behind frame plane (withoutFiller frame plane) _ _ (badFrame (length plane) frame) (badFrame (length (withoutFiller frame plane)) (packed frame)) good (good-packed plane frame good)
-        (go (badEdge edge || badBorder border) (badPrint frame edge border word print))
+        both-behind plane frame good _ _ (go (badEdge edge || badBorder border) (badPrint frame edge border word print))
       where
         go : (six fourteen : Bool) → Both frame (behind plane frame six fourteen) (behind (withoutFiller frame plane) (packed frame) six fourteen)
         go true fourteen = (refl, refl)
@@ -278,8 +176,7 @@ module _ (plane : List ℕ) (frame : Frame) where
         → Both frame (paintTagIn plane frame family word print) (paintTagIn (withoutFiller frame plane) (packed frame) family word print)
     unfolding paintTagIn
     paint-in-lines good =
-        both-behind frame plane (withoutFiller frame plane) _ _ (badFrame (length plane) frame) (badFrame (length (withoutFiller frame plane)) (packed frame)) good (good-packed plane frame good)
-        (go (not (isFamily family)))
+        both-behind plane frame good _ _ (go (not (isFamily family)))
       where
         go : (six : Bool) → Both frame (cond six (unpainted plane 6) (in-family plane frame)) (cond six (unpainted (withoutFiller frame plane) 6) (in-family (withoutFiller frame plane) (packed frame)))
         go true = (refl, refl)
@@ -295,22 +192,6 @@ module _ (plane : List ℕ) (frame : Frame) where
         go false false = paint-leaves (familyOf family .edge) (familyOf family .border) word print
 
 -- ---- two planes that agree off their filler
-
-module _ (plane : List ℕ) (frame : Frame) (other : List ℕ) (frame′ : Frame) (good : badFrame (length plane) frame ≡ false) (good′ : badFrame (length other) frame′ ≡ false)
-    (same : SamePixels plane frame other frame′) where
-  same-packed : packed frame ≡ packed frame′
-  same-packed = ap₂ packedFrame (same .widths) (same .heights)
-
-  same-lines : withoutFiller frame plane ≡ withoutFiller frame′ other
-  same-lines =
-      same-plane (frame .width) (frame .height) (withoutFiller frame plane) (withoutFiller frame′ other) (framed plane frame good .sides .wide)
-      (length-without plane frame good)
-      (length-without other frame′ good′ ∙ ap₂ _*_ (sym (same .heights)) (sym (same .widths)))
-      (λ x y hx hy.
-      pixel-without plane frame good x y hx hy
-      ∙ same .pixels x y hx hy
-      ∙ sym (pixel-without other frame′ good′ x y (subst (λ (n : ℕ). x < n) (same .widths) hx) (subst (λ (n : ℕ). y < n) (same .heights) hy))
-      ∙ ap (λ (w : ℕ). getD (withoutFiller frame′ other) (y * w + x) 0) (sym (same .widths)))
 
 reads-alike : {A : Type 0} (read : List ℕ → Frame → A)
     → ((plane : List ℕ) (frame : Frame) → badFrame (length plane) frame ≡ false → read plane frame ≡ read (withoutFiller frame plane) (packed frame)) → ReadsAlike read
