@@ -87,7 +87,7 @@ before-1 len width height = go (badSides width height) refl
         let small : width ≤ 8192 = omega (arith, s .width-le) in
         let lines : height - 1 + 1 ≡ height = omega (arith, s .high) in
         let whole : width * (height - 1) + width ≡ width * height =
-            omega (arith, mul-comm width (height - 1), mul-comm width height, next-row width (height - 1), ap (λ (n : ℕ). n * width) lines) in
+        omega (arith, mul-comm width (height - 1), mul-comm width height, next-row width (height - 1), ap (λ (n : ℕ). n * width) lines) in
         ap₂ (λ (a b : Bool). badSides width height || ((a || b) || not (eqb len (width * (height - 1) + width)))) (le-ltb width width (le-refl width)) (le-ltb 8192 width small)
         ∙ ap (λ (n : ℕ). badSides width height || not (eqb len n)) whole
 
