@@ -10,8 +10,9 @@ pub enum Painted {
     Refused(u8),
 }
 
-// The plane filled with light and one tag drawn into it; the answer is the tag's quad, from the print's first corner clockwise.
-// Refusal 1 for the plane, 6 for the edge and the border, 14 for the word and the print. A refused call leaves the plane as it was.
+// The picture filled with light and one tag drawn into it, filler left as it is; the answer is the tag's quad, from the print's
+// first corner clockwise. Refusal 1 for the plane, 6 for the edge and the border, 14 for the word and the print. A refused call
+// leaves the plane as it was.
 pub fn paint_tag(
     plane: &mut [u8],
     frame: Frame,

@@ -33,6 +33,6 @@ inBlock x0 y0 wide high x y = between x0 wide x && between y0 high y
 abbrev pub blockPixel : (x0 y0 wide high shade x y old : ℕ) → ℕ
 blockPixel x0 y0 wide high shade x y old = cond (inBlock x0 y0 wide high x y) shade old
 
--- "It fills the plane with light"
+-- "It fills the plane with light": its pixels
 abbrev pub filled : Frame → ℕ → List ℕ → List ℕ
 filled frame light plane = repainted frame (λ x y old. light) plane

@@ -77,7 +77,7 @@ fn fill_block(
     }
 }
 
-// The plane filled with light.
+// Every pixel light. Filler stays as it is, here and in all that is drawn.
 pub fn fill(plane: &mut [u8], frame: Frame, light: u8)
     requires { ⌜ badFrame (length (now plane)) frame ≡ false ⌝ }
     ensures { λ r. ⌜ now (plane .exit) ≡ filled frame light (now (plane .entry)) ⌝ }

@@ -1,4 +1,5 @@
--- Refusal 1: "a plane side is 0 or above 4,096, or a plane's length is not width × height". Assumes nothing.
+-- Refusal 1: "a plane side is 0 or above 4,096, or a plane's length is not width × height". Of an 8-bit plane Pixels.antt has the
+-- length. Assumes nothing.
 use Prim.Native.Nat.{ℕ, _*_}
 use mathlib.Core.Bool.{Bool, not, _||_}
 use lib.Dec.{ltb, eqb}
