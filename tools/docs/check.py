@@ -4,8 +4,8 @@
 check.py          says what is untrue, and exits with 1 where anything is
 check.py --write  first writes the list of definitions in docs/ARCHITECTURE.md anew
 
-1. docs/ARCHITECTURE.md, "What a reader must believe": every file of definitions that a public contract or demand 3
-   leans on, with its lines. They are found by following imports from the crates in ROOTS.
+1. docs/ARCHITECTURE.md, "What a reader must believe": every file of definitions that a public contract, demand 3
+   or a law of 02 leans on, with its lines. They are found by following imports from the crates in ROOTS.
 2. docs/TRACE.md: each name in `code` in the column of answers stands somewhere in the tree; a must-fail edit is a file.
 """
 import re

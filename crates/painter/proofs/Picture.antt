@@ -19,7 +19,7 @@ module _ (frame : Frame) where
   unfolding repainted
   length-repainted f plane = length-tabulate (length plane) (λ k. repaintedByte frame f k (getD plane k 0))
 
-  pub byte-repainted : (f : ℕ → ℕ → ℕ → ℕ) (plane : List ℕ) (k d : ℕ) → k < length plane
+  byte-repainted : (f : ℕ → ℕ → ℕ → ℕ) (plane : List ℕ) (k d : ℕ) → k < length plane
       → getD (repainted frame f plane) k d ≡ repaintedByte frame f k (getD plane k 0)
   unfolding repainted
   byte-repainted f plane k d h = getD-tabulate (length plane) (λ k. repaintedByte frame f k (getD plane k 0)) k d h

@@ -4,7 +4,7 @@ use mathlib.Core.Bool.{Bool, true, false, not, _||_, cond, true≢false}
 use mathlib.Core.List.{List}
 use Prim.Native.Nat.{ℕ, _/_, _%_, _<_}
 use native.Mathlib.Nat.{mod-lt}
-use borrow.Author.Tests.{lt-ltb, ltb-true}
+use borrow.Author.Tests.{lt-ltb, le-ltb, ltb-true}
 use lib.Dec.{ltb}
 use lib.Ieee.{Float}
 use lib.ListN.{length, getD}
@@ -12,11 +12,9 @@ use Rattle.lists.specs.Tab.{tabulate}
 use Rattle.lists.proofs.Rows.{tabulate-ext}
 use Rattle.lists.proofs.Bools.{and-left, and-right}
 use Rattle.refusals.specs.Outcome.{Outcome, accepted, refused}
-use Rattle.refusals.specs.Plane.{badPlane}
-use Rattle.refusals.specs.Pixels.{packedFrame, badFrame, levelAt}
+use Rattle.refusals.specs.Pixels.{packedFrame, badFrame, placeOf, levelAt}
 use Rattle.refusals.specs.declared.Frame.{Frame}
-use Rattle.refusals.proofs.Plane.{good-plane}
-use Rattle.refusals.proofs.Pixels.{good-frame}
+use Rattle.refusals.proofs.Pixels.{place-column, good-frame}
 use Rattle.points.specs.declared.Quad.{Quad}
 use Rattle.tables.specs.Table.{badTable, badEdge, badBorder}
 use Rattle.tables.specs.declared.Family.{Family}
@@ -118,10 +116,15 @@ module _ (frame : Frame) (f : ℕ → ℕ → ℕ → ℕ) (plane : List ℕ) (g
       ∙ sym (pixel-repainted (packed frame) f lines x y 0 (good-frame (good-packed plane frame good)) hx hy))
 
 leaves-all : (frame : Frame) (plane : List ℕ) → LeavesFiller frame plane plane
-leaves-all frame plane = record { as-long = refl; filler = λ k h e. refl }
+leaves-all frame plane = record { as-long = refl; filler = λ x y from to inside. refl }
 
 leaves-filler : (frame : Frame) (f : ℕ → ℕ → ℕ → ℕ) (plane : List ℕ) → LeavesFiller frame plane (repainted frame f plane)
-leaves-filler frame f plane = record { as-long = length-repainted frame f plane; filler = λ k h e. filler-repainted frame f plane k 0 h e }
+leaves-filler frame f plane = record {
+  as-long = length-repainted frame f plane;
+  filler = λ x y from to inside.
+      filler-repainted frame f plane (placeOf frame x y) 0 inside
+      (ap (λ (n : ℕ). ltb n (frame .width)) (place-column frame x y to) ∙ le-ltb x (frame .width) from);
+}
 
 -- what a painting of a plane and one of its lines without filler have in common
 abbrev Both : Frame → Painting → Painting → Type 0
@@ -178,7 +181,8 @@ module _ (plane : List ℕ) (frame : Frame) where
     paint-in-lines good =
         both-behind plane frame good _ _ (go (not (isFamily family)))
       where
-        go : (six : Bool) → Both frame (cond six (unpainted plane 6) (in-family plane frame)) (cond six (unpainted (withoutFiller frame plane) 6) (in-family (withoutFiller frame plane) (packed frame)))
+        go : (six : Bool) → Both frame (cond six (unpainted plane 6) (in-family plane frame))
+            (cond six (unpainted (withoutFiller frame plane) 6) (in-family (withoutFiller frame plane) (packed frame)))
         go true = (refl, refl)
         go false = paint-lines (familyOf family .edge) (familyOf family .border) word print good
 
@@ -235,15 +239,15 @@ module _ (paint : List ℕ → Frame → Painting)
 
 -- ---- the painted plane, where the pitch is the width
 
-before-painted : (width height edge border word : ℕ) (print : Print) (plane : List ℕ) → badPlane (length plane) width height ≡ false
+before-painted : (width height edge border word : ℕ) (print : Print) (plane : List ℕ) → 0 < width
     → painted (packedFrame width height) edge border word print plane ≡ tabulate (length plane) (λ k. paintedPixel edge border word print (k % width) (k / width))
 unfolding repainted
-before-painted width height edge border word print plane good =
+before-painted width height edge border word print plane wide =
     tabulate-ext (length plane) (λ k. repaintedByte (packedFrame width height) (λ x y old. paintedPixel edge border word print x y) k (getD plane k 0))
     (λ k. paintedPixel edge border word print (k % width) (k / width))
     (λ k h.
     ap (λ (t : Bool). cond t (paintedPixel edge border word print (k % width) (k / width)) (getD plane k 0))
-    (lt-ltb (k % width) width (mod-lt k (good-plane good .sides .wide))))
+    (lt-ltb (k % width) width (mod-lt k wide)))
 
 -- ---- the whole ticket
 

@@ -3,12 +3,12 @@
 use mathlib.Core.Path.{_≡_}
 use mathlib.Core.Bool.{false}
 use mathlib.Core.List.{List, [], _++_}
-use Prim.Native.Nat.{ℕ, zero, suc, _+_, _*_, _/_, _%_, _<_}
+use Prim.Native.Nat.{ℕ, zero, suc, _+_, _*_, _/_, _%_, _≤_, _<_}
 use lib.Ieee.{Float}
 use lib.ListN.{length, getD, take, drop}
 use Rattle.lists.specs.Tab.{tabulate}
 use Rattle.refusals.specs.Plane.{badPlane}
-use Rattle.refusals.specs.Pixels.{packedFrame, badFrame, placeOf, isPixel, levelAt}
+use Rattle.refusals.specs.Pixels.{packedFrame, badFrame, placeOf, levelAt}
 use Rattle.refusals.specs.declared.Frame.{Frame}
 use Rattle.points.specs.declared.Quad.{Quad}
 use Rattle.tables.specs.declared.Family.{Family}
@@ -39,10 +39,11 @@ pub record SamePixels (plane : List ℕ) (frame : Frame) (other : List ℕ) (fra
   pub heights : frame .height ≡ frame′ .height
   pub pixels : (x y : ℕ) → x < frame .width → y < frame .height → levelAt plane frame x y ≡ levelAt other frame′ x y
 
--- "The painter leaves filler as it found it."
+-- "The painter leaves filler as it found it.": the bytes of each line from the width up to the pitch
 pub record LeavesFiller (frame : Frame) (before after : List ℕ) : Type 0 where
   pub as-long : length after ≡ length before
-  pub filler : (k : ℕ) → k < length before → isPixel frame k ≡ false → getD after k 0 ≡ getD before k 0
+  pub filler : (x y : ℕ) → frame .width ≤ x → x < frame .pitch → let k = y * frame .pitch + x in
+      k < length before → getD after k 0 ≡ getD before k 0
 
 -- ---- one entry, all else that it is given held fast
 
@@ -50,7 +51,7 @@ pub record LeavesFiller (frame : Frame) (before after : List ℕ) : Type 0 where
 pub record ReadsAlike {A : Type 0} (read : List ℕ → Frame → A) : Type 0 where
   -- "a plane reads .. as its lines without filler": every plane that refusal 1 lets through
   pub lines : (plane : List ℕ) (frame : Frame) → badFrame (length plane) frame ≡ false → read plane frame ≡ read (withoutFiller frame plane) (packed frame)
-  -- and so do two planes that agree off their filler
+  -- two planes that agree off their filler read alike
   pub same : (plane : List ℕ) (frame : Frame) (other : List ℕ) (frame′ : Frame) → badFrame (length plane) frame ≡ false → badFrame (length other) frame′ ≡ false
       → SamePixels plane frame other frame′ → read plane frame ≡ read other frame′
 
@@ -62,7 +63,7 @@ pub record PaintsAlike (paint : List ℕ → Frame → Painting) : Type 0 where
       × (withoutFiller frame (paint plane frame .plane) ≡ paint (withoutFiller frame plane) (packed frame) .plane)
   -- on every plane, also where the call is refused
   pub filler : (plane : List ℕ) (frame : Frame) → LeavesFiller frame plane (paint plane frame .plane)
-  -- two planes that agree off their filler still do so, and the answers are alike
+  -- two planes that agree off their filler paint alike: one answer, and they still agree
   pub same : (plane : List ℕ) (frame : Frame) (other : List ℕ) (frame′ : Frame) → badFrame (length plane) frame ≡ false → badFrame (length other) frame′ ≡ false
       → SamePixels plane frame other frame′
       → (paint plane frame .answer ≡ paint other frame′ .answer) × SamePixels (paint plane frame .plane) frame (paint other frame′ .plane) frame′
@@ -81,6 +82,6 @@ pub record Padded : Type 0 where
   -- "did before": where the pitch is the width, refusal 1, the place of a pixel and the painted plane are those of document 01
   pub before-1 : (len width height : ℕ) → badFrame len (packedFrame width height) ≡ badPlane len width height
   pub before-place : (width height x y : ℕ) → placeOf (packedFrame width height) x y ≡ y * width + x
-  pub before-painted : (width height edge border word : ℕ) (print : Print) (plane : List ℕ) → badPlane (length plane) width height ≡ false
+  pub before-painted : (width height edge border word : ℕ) (print : Print) (plane : List ℕ) → 0 < width
       → painted (packedFrame width height) edge border word print plane
       ≡ tabulate (length plane) (λ k. paintedPixel edge border word print (k % width) (k / width))

@@ -1,2 +1,3 @@
-// Document 01's proved examples (its rows marked P): specs/Rows.antt is their table, proofs/Rows.antt the one proof.
-// There is no code here.
+// What the papers ask to be proved of the whole: document 01's proved examples (its rows marked P) in specs/Rows.antt, demand 3
+// in specs/Demand3.antt, document 02's law of padded lines in specs/Padded.antt; the proofs have the same names. There is no
+// code here.

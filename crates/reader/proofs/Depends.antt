@@ -17,7 +17,7 @@ use Rattle.places.specs.Place.{axesOf}
 use Rattle.levels.specs.Levels.{codeOf}
 use Rattle.reader.specs.Reading.{samples, column, row, sampleInside, samplesInside, levelsOf, Tag, tagOf, reading}
 
--- the same sides at another pitch
+-- the same sides at another pitch; without filler where that is the width
 abbrev pub atPitch : Frame → ℕ → Frame
 atPitch frame pitch = record { width = frame .width; height = frame .height; pitch = pitch }
 

@@ -1,4 +1,4 @@
--- The pixels of an 8-bit plane that refusal 1 lets through, the bytes that they are, and the planes without filler. Assumes nothing.
+-- The pixels of an 8-bit plane that refusal 1 lets through, and the bytes that they are. Assumes nothing.
 use mathlib.Core.Path.{_≡_, ap}
 use mathlib.Core.Bool.{false, not, _||_}
 use Prim.Native.Nat.{ℕ, _+_, _-_, _*_, _<_, _≤_}
@@ -49,8 +49,6 @@ few-bytes {width} {height} s p = let h : height - 1 ≤ 4095 = omega (arith, s .
 pub record Framed (len : ℕ) (frame : Frame) : Type 0 where
   pub sides : Sides (frame .width) (frame .height)
   pub pitched : Pitched (frame .width) (frame .pitch)
-  pub whole : len ≡ bytesOf frame
-  pub few : len ≤ 33550336
   -- n pixels of line y, from (x, y) on, are bytes of the plane
   pub run-inside : (x y n : ℕ) → x + n ≤ frame .width → y < frame .height → placeOf frame x y + n ≤ len
   -- and each of its bytes stands in a line of the picture
@@ -65,9 +63,7 @@ framed {len} {frame} sides pitched whole =
     record {
       sides = sides;
       pitched = pitched;
-      whole = whole;
-      few = omega (arith, whole, few-bytes sides pitched, sides .width-le);
-      run-inside = λ x y n fits h. let le : y ≤ last = omega arith in omega (arith, whole, mul-le-mul-right p le, turned);
+      run-inside = λ x y n fits h. let le : y ≤ last = omega arith in omega (arith, whole, pitched .at-least, mul-le-mul-right p le, turned);
       row-lt = λ k h.
           div-lt-iff-lt-mul {k = p} (omega (arith, sides .wide, pitched .at-least)) .1
           (omega (arith, whole, pitched .at-least, turned, next-row p last, ap (λ (n : ℕ). n * p) lines));

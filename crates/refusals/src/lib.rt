@@ -11,8 +11,8 @@ pub struct Shape {
     pub height: usize,
 }
 
-// The sides of an 8-bit plane, and how many bytes after the first pixel of a line that of the next line comes. What lies
-// between the lines is filler, which is never read and never written.
+// The sides of an 8-bit plane, and its pitch: the bytes from the start of a line to the start of the next. The pitch - width
+// bytes behind each line but the last are filler, which is never read and never written.
 pub struct Frame {
     pub width: usize,
     pub height: usize,
@@ -34,7 +34,7 @@ fn bad_sides(width: usize, height: usize) -> bool
     4096 < height
 }
 
-// Refusal 1 for a plane of `len` samples.
+// Refusal 1 for a plane of `len` floats.
 pub fn bad_plane(len: usize, width: usize, height: usize) -> bool
     ensures { λ r. ⌜ r ≡ badPlane len width height ⌝ }
 {
