@@ -8,14 +8,19 @@
  * What the caller owes
  *   - Every pointer is aligned for its type and not null, also where its count is 0.
  *   - Behind a pointer with a count lie that many elements, and behind one without a count the one element or the eight or
- *     two numbers that its comment names. All of them are initialized, those of outputs too.
+ *     two numbers that its comment names. All of them are initialized, those of outputs and the filler of planes too.
  *   - No buffer that a call may write overlaps another buffer of the same call.
  *   - No other thread writes a lent buffer, or reads one that the call may write, while the call runs.
  *   Nothing else is demanded: every number is taken, and refused where it does not fit.
  *
  * Buffers
  *   - A pointer and the count of elements behind it stand next to each other. A pointer to const is only read.
- *   - A plane is width × height samples, row by row; y grows downward. The counts of planes are counts of samples.
+ *   - A plane is `height` lines of `width` samples; y grows downward.
+ *   - A float plane has no pitch: it is one line right after the other, and its count is width × height.
+ *   - An 8-bit plane has a pitch, from the width to 8,192 bytes: pixel (x, y) is byte y × pitch + x. Behind each line but the last
+ *     are pitch - width bytes of filler, behind the last line none, so its count is pitch × (height - 1) + width. Without filler
+ *     the pitch is the width.
+ *   - Filler may hold anything. It is never read and never written: a plane is read and painted as if its lines had no filler.
  *   - A quad is eight numbers: x0 y0 x1 y1 x2 y2 x3 y3. So are the corners of a tag.
  *   - An output that is longer than what is written keeps the rest of its elements.
  *   - A word of edge² bits is a square of modules; its highest bit is the first module.
@@ -25,7 +30,8 @@
  *   border (modules), match threshold (`hamming_distance`) and the codes.
  *
  * Refusals
- *    1  a plane side is 0 or above 4,096, or a plane's length is not width × height
+ *    1  a plane side is 0 or above 4,096; a float plane's length is not width × height; an 8-bit plane's pitch is below its width
+ *       or above 8,192, or its length is not pitch × (height - 1) + width
  *    2  weights not an odd number from 1 to 15, or one outside 0.0 to 1.0 or NaN
  *    3  a sample to be blurred outside 0.0 to 1.0, a sample lent to the response, threshold or clusters of magnitude above 65,536,
  *       or NaN in any of them
@@ -92,16 +98,16 @@ uint32_t muosleap_bit_code(const uint8_t *levels, size_t levels_count, uint8_t b
  * Refusals: 1, 6, 8, 9, 10, 11, 12, 13.
  * quad: eight numbers. id, turn: as of muosleap_best_tag. corners: eight numbers, the quad turned left by the turn, then reversed.
  */
-uint32_t muosleap_try_decode_quad(const uint8_t *plane, size_t plane_count, size_t width, size_t height, uint8_t edge,
-                                  uint8_t border, uint8_t hamming_distance, const uint64_t *codes, size_t codes_count,
-                                  const float quad[8], size_t *id, uint8_t *turn, float corners[8]);
+uint32_t muosleap_try_decode_quad(const uint8_t *plane, size_t plane_count, size_t width, size_t height, size_t pitch,
+                                  uint8_t edge, uint8_t border, uint8_t hamming_distance, const uint64_t *codes,
+                                  size_t codes_count, const float quad[8], size_t *id, uint8_t *turn, float corners[8]);
 
 /*
  * The same by family number.
  * Refusals: 1, 6 (no such family), 8, 9, 10, 11, 12, 13.
  */
-uint32_t muosleap_try_decode_quad_in(const uint8_t *plane, size_t plane_count, size_t width, size_t height, uint8_t family,
-                                     const float quad[8], size_t *id, uint8_t *turn, float corners[8]);
+uint32_t muosleap_try_decode_quad_in(const uint8_t *plane, size_t plane_count, size_t width, size_t height, size_t pitch,
+                                     uint8_t family, const float quad[8], size_t *id, uint8_t *turn, float corners[8]);
 
 /*
  * Each quad of a list read by itself with a lent table.
@@ -109,35 +115,36 @@ uint32_t muosleap_try_decode_quad_in(const uint8_t *plane, size_t plane_count, s
  * quads: eight numbers a quad. rows: three numbers a quad, which are its refusal or 0, its id and its turn. corners: eight numbers a
  * quad. The id, the turn and the corners of a refused quad are 0.
  */
-uint32_t muosleap_try_decode_quads(const uint8_t *plane, size_t plane_count, size_t width, size_t height, uint8_t edge,
-                                   uint8_t border, uint8_t hamming_distance, const uint64_t *codes, size_t codes_count,
-                                   const float *quads, size_t quads_count, uint64_t *rows, size_t rows_count, float *corners,
-                                   size_t corners_count);
+uint32_t muosleap_try_decode_quads(const uint8_t *plane, size_t plane_count, size_t width, size_t height, size_t pitch,
+                                   uint8_t edge, uint8_t border, uint8_t hamming_distance, const uint64_t *codes,
+                                   size_t codes_count, const float *quads, size_t quads_count, uint64_t *rows, size_t rows_count,
+                                   float *corners, size_t corners_count);
 
 /*
  * The same by family number.
  * Refusals: 1, 6 (no such family), 16.
  */
-uint32_t muosleap_try_decode_quads_in(const uint8_t *plane, size_t plane_count, size_t width, size_t height, uint8_t family,
-                                      const float *quads, size_t quads_count, uint64_t *rows, size_t rows_count, float *corners,
-                                      size_t corners_count);
+uint32_t muosleap_try_decode_quads_in(const uint8_t *plane, size_t plane_count, size_t width, size_t height, size_t pitch,
+                                      uint8_t family, const float *quads, size_t quads_count, uint64_t *rows, size_t rows_count,
+                                      float *corners, size_t corners_count);
 
 /*
  * Fills an 8-bit plane with light and draws one tag into it, its upper left pixel at (x, y), `cell` pixels a module: dark borders, and
  * a light module for each bit that is 1. At turn 0, 1, 2, 3 the print's first corner is upper left, upper right, lower right, lower left.
  * Refusals: 1, 6 (edge and border), 14.
- * plane: the picture. quad: eight numbers, the tag's outer corners, clockwise from the print's first.
+ * plane: the picture; its filler stays as it was. quad: eight numbers, the tag's outer corners, clockwise from the print's first.
  */
-uint32_t muosleap_paint_tag(uint8_t *plane, size_t plane_count, size_t width, size_t height, uint8_t edge, uint8_t border,
-                            uint64_t word, size_t x, size_t y, size_t cell, uint8_t turn, uint8_t light, uint8_t dark,
-                            float quad[8]);
+uint32_t muosleap_paint_tag(uint8_t *plane, size_t plane_count, size_t width, size_t height, size_t pitch, uint8_t edge,
+                            uint8_t border, uint64_t word, size_t x, size_t y, size_t cell, uint8_t turn, uint8_t light,
+                            uint8_t dark, float quad[8]);
 
 /*
  * The same with the edge and the border of a family.
  * Refusals: 1, 6 (no such family), 14.
  */
-uint32_t muosleap_paint_tag_in(uint8_t *plane, size_t plane_count, size_t width, size_t height, uint8_t family, uint64_t word,
-                               size_t x, size_t y, size_t cell, uint8_t turn, uint8_t light, uint8_t dark, float quad[8]);
+uint32_t muosleap_paint_tag_in(uint8_t *plane, size_t plane_count, size_t width, size_t height, size_t pitch, uint8_t family,
+                               uint64_t word, size_t x, size_t y, size_t cell, uint8_t turn, uint8_t light, uint8_t dark,
+                               float quad[8]);
 
 /*
  * A blur by lent weights, across into `temp` and then down into `out`, edges repeated.

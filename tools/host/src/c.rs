@@ -54,36 +54,37 @@ crossing! {
 
     /// A reading of one quad with a lent table. Refusals 1, 6, 8 to 13.
     fn try_decode_quad(
-        plane: &[u8], width: usize, height: usize, edge: u8, border: u8, hamming_distance: u8, codes: &[u64], quad: &[f32; 8],
-        id: &mut usize, turn: &mut u8, corners: &mut [f32; 8]
+        plane: &[u8], width: usize, height: usize, pitch: usize, edge: u8, border: u8, hamming_distance: u8, codes: &[u64],
+        quad: &[f32; 8], id: &mut usize, turn: &mut u8, corners: &mut [f32; 8]
     );
 
     /// A reading of one quad by family number. Refusals 1, 6, 8 to 13.
     fn try_decode_quad_in(
-        plane: &[u8], width: usize, height: usize, family: u8, quad: &[f32; 8], id: &mut usize, turn: &mut u8, corners: &mut [f32; 8]
+        plane: &[u8], width: usize, height: usize, pitch: usize, family: u8, quad: &[f32; 8], id: &mut usize, turn: &mut u8,
+        corners: &mut [f32; 8]
     );
 
     /// A reading of a list of quads with a lent table. Refusals 1, 6, 16; 8 to 13 stand in rows.
     fn try_decode_quads(
-        plane: &[u8], width: usize, height: usize, edge: u8, border: u8, hamming_distance: u8, codes: &[u64], quads: &[f32],
-        rows: &mut [u64], corners: &mut [f32]
+        plane: &[u8], width: usize, height: usize, pitch: usize, edge: u8, border: u8, hamming_distance: u8, codes: &[u64],
+        quads: &[f32], rows: &mut [u64], corners: &mut [f32]
     );
 
     /// A reading of a list of quads by family number. Refusals 1, 6, 16; 8 to 13 stand in rows.
     fn try_decode_quads_in(
-        plane: &[u8], width: usize, height: usize, family: u8, quads: &[f32], rows: &mut [u64], corners: &mut [f32]
+        plane: &[u8], width: usize, height: usize, pitch: usize, family: u8, quads: &[f32], rows: &mut [u64], corners: &mut [f32]
     );
 
-    /// Fills the plane with light and paints a tag. Refusals 1, 6, 14.
+    /// Fills the plane with light and paints a tag; filler stays as it was. Refusals 1, 6, 14.
     fn paint_tag(
-        plane: &mut [u8], width: usize, height: usize, edge: u8, border: u8, word: u64, x: usize, y: usize, cell: usize, turn: u8,
-        light: u8, dark: u8, quad: &mut [f32; 8]
+        plane: &mut [u8], width: usize, height: usize, pitch: usize, edge: u8, border: u8, word: u64, x: usize, y: usize,
+        cell: usize, turn: u8, light: u8, dark: u8, quad: &mut [f32; 8]
     );
 
     /// The same by family number. Refusals 1, 6, 14.
     fn paint_tag_in(
-        plane: &mut [u8], width: usize, height: usize, family: u8, word: u64, x: usize, y: usize, cell: usize, turn: u8, light: u8,
-        dark: u8, quad: &mut [f32; 8]
+        plane: &mut [u8], width: usize, height: usize, pitch: usize, family: u8, word: u64, x: usize, y: usize, cell: usize,
+        turn: u8, light: u8, dark: u8, quad: &mut [f32; 8]
     );
 
     /// Blurs `img` across into `temp`, and `temp` down into `out`. Refusals 1, 2, 3.

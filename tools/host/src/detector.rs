@@ -1,7 +1,7 @@
 //! Words, levels and quads.
 
 use crate::refusal::accepted;
-use crate::{Family, Quad, Refusal, Shape, Table, c};
+use crate::{Family, Picture, Quad, Refusal, Table, c};
 
 /// What a word shows.
 #[derive(Clone, Copy, PartialEq, Eq, Debug)]
@@ -91,20 +91,20 @@ impl Table<'_> {
     /// Reads the tag in a quad of a picture. Refusals 1, 6, 8 to 13.
     ///
     /// ```
-    /// use muosleap::{Quad, Refusal, Shape, Table};
+    /// use muosleap::{Picture, Quad, Refusal, Table};
     ///
     /// let table = Table { edge: 4, border: 1, hamming_distance: 1, codes: &[0x231B] };
-    /// let shape = Shape { width: 20, height: 20 };
     /// let quad = Quad::from([0.5, 0.5, 18.5, 0.5, 18.5, 18.5, 0.5, 18.5]);
-    /// assert_eq!(table.try_decode_quad(&[128; 400], shape, &quad), Err(Refusal::LowContrast));
-    /// assert_eq!(table.try_decode_quad(&[128; 399], shape, &quad), Err(Refusal::PlaneSize));
+    /// assert_eq!(table.try_decode_quad(&Picture::packed([128; 400], 20, 20), &quad), Err(Refusal::LowContrast));
+    /// assert_eq!(table.try_decode_quad(&Picture::packed([128; 399], 20, 20), &quad), Err(Refusal::PlaneSize));
     /// ```
-    pub fn try_decode_quad(&self, plane: &[u8], shape: Shape, quad: &Quad) -> Result<Tag, Refusal> {
+    pub fn try_decode_quad(&self, picture: &Picture<impl AsRef<[u8]>>, quad: &Quad) -> Result<Tag, Refusal> {
         let (mut id, mut turn, mut corners) = (0, 0, [0.0; 8]);
         accepted(c::try_decode_quad(
-            plane,
-            shape.width,
-            shape.height,
+            picture.bytes.as_ref(),
+            picture.width,
+            picture.height,
+            picture.stride,
             self.edge,
             self.border,
             self.hamming_distance,
@@ -118,12 +118,26 @@ impl Table<'_> {
     }
 
     /// Reads a list of quads: for each quad its tag, or why it was refused (8 to 13). The call's own refusals: 1, 6, 16.
-    pub fn try_decode_quads(&self, plane: &[u8], shape: Shape, quads: &[Quad]) -> Result<Vec<Result<Tag, Refusal>>, Refusal> {
+    ///
+    /// ```
+    /// use muosleap::{Picture, Quad, Refusal, Table};
+    ///
+    /// let table = Table { edge: 4, border: 1, hamming_distance: 1, codes: &[0x231B] };
+    /// let picture = Picture::packed([128; 400], 20, 20);
+    /// let rows = table.try_decode_quads(&picture, &[Quad::from([0.0; 8]), Quad::from([20.0; 8])]);
+    /// assert_eq!(rows, Ok(vec![Err(Refusal::LowContrast), Err(Refusal::CornerOutside)]));
+    /// ```
+    pub fn try_decode_quads(
+        &self,
+        picture: &Picture<impl AsRef<[u8]>>,
+        quads: &[Quad],
+    ) -> Result<Vec<Result<Tag, Refusal>>, Refusal> {
         listed(quads, |quads, rows, corners| {
             c::try_decode_quads(
-                plane,
-                shape.width,
-                shape.height,
+                picture.bytes.as_ref(),
+                picture.width,
+                picture.height,
+                picture.stride,
                 self.edge,
                 self.border,
                 self.hamming_distance,
@@ -140,25 +154,26 @@ impl Family {
     /// Reads the tag in a quad of a picture. Refusals 1, 8 to 13.
     ///
     /// ```
-    /// use muosleap::{Family, Print, Refusal, Shape};
+    /// use muosleap::{Family, Picture, Print, Refusal};
     ///
-    /// let (family, shape) = (Family::T25H9, Shape { width: 50, height: 40 });
-    /// let mut picture = vec![0; shape.len()];
+    /// let family = Family::T25H9;
+    /// let mut picture = Picture::packed(vec![0; 50 * 40], 50, 40);
     /// let print = Print { x: 3, y: 2, cell: 3, turn: 0, light: 200, dark: 20 };
-    /// let quad = family.paint_tag(&mut picture, shape, family.codes()[34], &print)?;
-    /// let tag = family.try_decode_quad(&picture, shape, &quad)?;
+    /// let quad = family.paint_tag(&mut picture, family.codes()[34], &print)?;
+    /// let tag = family.try_decode_quad(&picture, &quad)?;
     /// assert_eq!((tag.id, tag.turn), (34, 0));
     /// // Another family does not know it.
-    /// assert_eq!(Family::T25H7.try_decode_quad(&picture, shape, &quad), Err(Refusal::NoCode));
+    /// assert_eq!(Family::T25H7.try_decode_quad(&picture, &quad), Err(Refusal::NoCode));
     /// # Ok::<(), Refusal>(())
     /// ```
-    pub fn try_decode_quad(self, plane: &[u8], shape: Shape, quad: &Quad) -> Result<Tag, Refusal> {
+    pub fn try_decode_quad(self, picture: &Picture<impl AsRef<[u8]>>, quad: &Quad) -> Result<Tag, Refusal> {
         let (mut id, mut turn, mut corners) = (0, 0, [0.0; 8]);
         let quad = (*quad).into();
         accepted(c::try_decode_quad_in(
-            plane,
-            shape.width,
-            shape.height,
+            picture.bytes.as_ref(),
+            picture.width,
+            picture.height,
+            picture.stride,
             self.number(),
             &quad,
             &mut id,
@@ -171,21 +186,26 @@ impl Family {
     /// Reads a list of quads: for each quad its tag, or why it was refused (8 to 13). The call's own refusals: 1, 16.
     ///
     /// ```
-    /// use muosleap::{Family, Print, Quad, Refusal, Shape};
+    /// use muosleap::{Family, Picture, Print, Quad, Refusal};
     ///
-    /// let (family, shape) = (Family::T16H5, Shape { width: 40, height: 40 });
-    /// let mut picture = vec![0; shape.len()];
+    /// let family = Family::T16H5;
+    /// let mut picture = Picture::packed(vec![0; 40 * 40], 40, 40);
     /// let print = Print { x: 4, y: 4, cell: 4, turn: 0, light: 200, dark: 20 };
-    /// let quad = family.paint_tag(&mut picture, shape, family.codes()[9], &print)?;
+    /// let quad = family.paint_tag(&mut picture, family.codes()[9], &print)?;
     /// let outside = Quad::from([0.0, 0.0, 40.0, 0.0, 40.0, 40.0, 0.0, 40.0]);
-    /// let rows = family.try_decode_quads(&picture, shape, &[quad, outside])?;
+    /// let rows = family.try_decode_quads(&picture, &[quad, outside])?;
     /// assert_eq!(rows[0].unwrap().id, 9);
     /// assert_eq!(rows[1], Err(Refusal::CornerOutside));
     /// # Ok::<(), Refusal>(())
     /// ```
-    pub fn try_decode_quads(self, plane: &[u8], shape: Shape, quads: &[Quad]) -> Result<Vec<Result<Tag, Refusal>>, Refusal> {
+    pub fn try_decode_quads(
+        self,
+        picture: &Picture<impl AsRef<[u8]>>,
+        quads: &[Quad],
+    ) -> Result<Vec<Result<Tag, Refusal>>, Refusal> {
+        let &Picture { ref bytes, width, height, stride } = picture;
         listed(quads, |quads, rows, corners| {
-            c::try_decode_quads_in(plane, shape.width, shape.height, self.number(), quads, rows, corners)
+            c::try_decode_quads_in(bytes.as_ref(), width, height, stride, self.number(), quads, rows, corners)
         })
     }
 }

@@ -3,7 +3,7 @@
 //! [`Saddles`] runs them one after the other in buffers that it keeps from picture to picture.
 
 use crate::refusal::accepted;
-use crate::{Point, Refusal, Shape, c};
+use crate::{Picture, Point, Refusal, Shape, c};
 
 /// The weights of the original's Gaussian blur, worked out as it does. Sigma 1.5, which it uses, gives seven; above 3.5 the blur
 /// refuses them, since there are more than 15.
@@ -21,9 +21,18 @@ pub fn kernel(sigma: f32) -> Vec<f32> {
     values.into_iter().map(|value| value / sum).collect()
 }
 
-/// The samples of an 8-bit picture as floats from 0.0 to 1.0.
-pub fn to_unit(pixels: &[u8]) -> Vec<f32> {
-    pixels.iter().map(|&pixel| pixel as f32 / 255.0).collect()
+/// The pixels of an 8-bit picture as floats from 0.0 to 1.0, one line right after the other, without filler.
+///
+/// ```
+/// use muosleap::{Picture, image_util::to_unit};
+///
+/// let picture = Picture { bytes: [0, 51, 99, 255, 0], width: 2, height: 2, stride: 3 };
+/// assert_eq!(to_unit(&picture), [0.0, 0.2, 1.0, 0.0]);
+/// ```
+pub fn to_unit(picture: &Picture<impl AsRef<[u8]>>) -> Vec<f32> {
+    let mut samples = Vec::with_capacity(picture.lines().map(<[u8]>::len).sum());
+    picture.lines().for_each(|line| samples.extend(line.iter().map(|&pixel| pixel as f32 / 255.0)));
+    samples
 }
 
 /// Blurs `img`, of samples from 0.0 to 1.0: across into `temp`, then down into `out`. Refusals 1, 2, 3.
@@ -102,7 +111,7 @@ impl From<[u64; 3]> for Cluster {
 
 /// How long a worklist the cluster walk needs.
 pub const fn worklist_len(shape: Shape) -> usize {
-    3 * shape.len() + 1
+    shape.len().saturating_mul(3).saturating_add(1)
 }
 
 /// Finds the clusters of a response, which are connected sets of samples below the threshold. Answers how many there are; as many
@@ -161,10 +170,12 @@ pub struct Saddles {
 impl Saddles {
     /// Buffers for pictures of these sides.
     pub fn new(shape: Shape) -> Saddles {
-        let plane = vec![0.0; shape.len()];
+        // Larger pictures are refused, with whatever buffers.
+        let most = Shape { width: shape.width.min(4_096), height: shape.height.min(4_096) };
+        let plane = vec![0.0; most.len()];
         // Each cluster has a sample of its own with no other cluster's beside it, so there is at most one for every two samples.
-        let rows = vec![[0; 3]; shape.len().div_ceil(2)];
-        let worklist = vec![0; worklist_len(shape)];
+        let rows = vec![[0; 3]; most.len().div_ceil(2)];
+        let worklist = vec![0; worklist_len(most)];
         Saddles { shape, blurred: plane.clone(), response: plane, worklist, rows }
     }
 

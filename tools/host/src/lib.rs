@@ -1,7 +1,7 @@
 //! Muosleap for Rust programs: reads the square tags of a printed sheet in a camera picture.
 //!
 //! Every call goes to `libmuosleap_c.a`, which is compiled from code that is proved against its definition for all inputs. This
-//! crate adds types: a refusal with a name and a sentence instead of a number, small structs for planes, points, quads and
+//! crate adds types: a refusal with a name and a sentence instead of a number, small structs for pictures, points, quads and
 //! tables. It also has the few host parts that the proved code leaves to Rust: [`image_util::kernel`], [`image_util::to_unit`].
 //!
 //! - [`detector`]: words, levels and quads, by [`Family`] or by a [`Table`] of your own.
@@ -10,17 +10,16 @@
 //! - [`c`]: the C interface as it crosses, for hosts that keep their own buffers.
 //!
 //! ```
-//! use muosleap::{Family, Print, Shape};
+//! use muosleap::{Family, Picture, Print};
 //!
 //! // Paint tag 7 of the family T36H11, 5 pixels a module, in a picture of 80 × 60 pixels.
-//! let shape = Shape { width: 80, height: 60 };
-//! let mut picture = vec![0; shape.len()];
+//! let mut picture = Picture::packed(vec![0; 80 * 60], 80, 60);
 //! let print = Print { x: 12, y: 4, cell: 5, turn: 0, light: 220, dark: 30 };
 //! let family = Family::T36H11;
-//! let quad = family.paint_tag(&mut picture, shape, family.codes()[7], &print)?;
+//! let quad = family.paint_tag(&mut picture, family.codes()[7], &print)?;
 //!
 //! // Read it again, starting at its second corner.
-//! let tag = family.try_decode_quad(&picture, shape, &quad.started(1))?;
+//! let tag = family.try_decode_quad(&picture, &quad.started(1))?;
 //! assert_eq!((tag.id, tag.turn), (7, 3));
 //! # Ok::<(), muosleap::Refusal>(())
 //! ```
@@ -33,6 +32,7 @@ pub mod c;
 pub mod detector;
 pub mod image_util;
 pub mod painter;
+mod picture;
 mod points;
 mod refusal;
 pub mod sheet;
@@ -41,6 +41,7 @@ mod tables;
 pub use detector::{Found, Tag};
 pub use image_util::Cluster;
 pub use painter::Print;
+pub use picture::Picture;
 pub use points::{Point, Quad, Shape};
 pub use refusal::{NoRefusal, REFUSALS, Refusal};
 pub use tables::{FAMILIES, Family, Table};

@@ -1,7 +1,7 @@
 //! Paints tags.
 
 use crate::refusal::accepted;
-use crate::{Family, Quad, Refusal, Shape, c};
+use crate::{Family, Picture, Quad, Refusal, c};
 
 /// How a tag is painted.
 #[derive(Clone, Copy, PartialEq, Eq, Debug)]
@@ -14,46 +14,68 @@ pub struct Print {
     pub cell: usize,
     /// Where the print's first corner is: 0 upper left, 1 upper right, 2 lower right, 3 lower left.
     pub turn: u8,
-    /// Shade of light modules and of the plane around the tag, at least 50 above `dark`.
+    /// Shade of light modules and of the picture around the tag, at least 50 above `dark`.
     pub light: u8,
     /// Shade of dark modules.
     pub dark: u8,
 }
 
-/// Fills the plane with light and paints a tag of any edge and border. Answers the tag's outer corners, clockwise from the print's
-/// first. Refusals 1, 6 for edge and border, 14.
+/// Fills the picture with light and paints a tag of any edge and border; filler stays as it was. Answers the tag's outer corners,
+/// clockwise from the print's first. Refusals 1, 6 for edge and border, 14.
 ///
 /// ```
-/// use muosleap::{Print, Refusal, Shape, painter::paint_tag};
+/// use muosleap::{Picture, Print, Refusal, painter::paint_tag};
 ///
-/// let shape = Shape { width: 9, height: 9 };
-/// let mut plane = [0; 81];
+/// // Ten bytes a line, the last of them filler.
+/// let mut picture = Picture { bytes: [7; 10 * 8 + 9], width: 9, height: 9, stride: 10 };
 /// let print = Print { x: 1, y: 1, cell: 1, turn: 0, light: 255, dark: 0 };
-/// let quad = paint_tag(&mut plane, shape, 4, 1, 0x231B, &print)?;
+/// let quad = paint_tag(&mut picture, 4, 1, 0x231B, &print)?;
 /// assert_eq!(<[f32; 8]>::from(quad), [0.5, 0.5, 6.5, 0.5, 6.5, 6.5, 0.5, 6.5]);
-/// assert_eq!(plane[2 * 9..3 * 9], [255, 0, 0, 0, 255, 0, 0, 255, 255]);
+/// assert_eq!(picture.bytes[2 * 10..3 * 10], [255, 0, 0, 0, 255, 0, 0, 255, 255, 7]);
 ///
 /// let turned = Print { turn: 4, ..print };
-/// assert_eq!(paint_tag(&mut plane, shape, 4, 1, 0x231B, &turned), Err(Refusal::Painting));
+/// assert_eq!(paint_tag(&mut picture, 4, 1, 0x231B, &turned), Err(Refusal::Painting));
 /// # Ok::<(), Refusal>(())
 /// ```
-pub fn paint_tag(plane: &mut [u8], shape: Shape, edge: u8, border: u8, word: u64, print: &Print) -> Result<Quad, Refusal> {
+pub fn paint_tag(
+    picture: &mut Picture<impl AsMut<[u8]>>,
+    edge: u8,
+    border: u8,
+    word: u64,
+    print: &Print,
+) -> Result<Quad, Refusal> {
     let Print { x, y, cell, turn, light, dark } = *print;
     let mut quad = [0.0; 8];
-    accepted(c::paint_tag(plane, shape.width, shape.height, edge, border, word, x, y, cell, turn, light, dark, &mut quad))?;
+    accepted(c::paint_tag(
+        picture.bytes.as_mut(),
+        picture.width,
+        picture.height,
+        picture.stride,
+        edge,
+        border,
+        word,
+        x,
+        y,
+        cell,
+        turn,
+        light,
+        dark,
+        &mut quad,
+    ))?;
     Ok(quad.into())
 }
 
 impl Family {
-    /// Fills the plane with light and paints a tag of this family. Answers the tag's outer corners, clockwise from the print's
-    /// first. Refusals 1, 14.
-    pub fn paint_tag(self, plane: &mut [u8], shape: Shape, word: u64, print: &Print) -> Result<Quad, Refusal> {
+    /// Fills the picture with light and paints a tag of this family; filler stays as it was. Answers the tag's outer corners,
+    /// clockwise from the print's first. Refusals 1, 14.
+    pub fn paint_tag(self, picture: &mut Picture<impl AsMut<[u8]>>, word: u64, print: &Print) -> Result<Quad, Refusal> {
         let Print { x, y, cell, turn, light, dark } = *print;
         let mut quad = [0.0; 8];
         accepted(c::paint_tag_in(
-            plane,
-            shape.width,
-            shape.height,
+            picture.bytes.as_mut(),
+            picture.width,
+            picture.height,
+            picture.stride,
             self.number(),
             word,
             x,

@@ -1,18 +1,18 @@
 //! Sides of a plane, points, quads.
 
-/// The sides of a plane in pixels. A plane is a slice with its rows one after the other.
+/// The sides of a plane of floats. It is a slice with its rows one right after the other. (A [`Picture`](crate::Picture) is of bytes.)
 #[derive(Clone, Copy, PartialEq, Eq, Debug)]
 pub struct Shape {
-    /// Pixels in a row.
+    /// Samples in a row.
     pub width: usize,
     /// Rows.
     pub height: usize,
 }
 
 impl Shape {
-    /// How many samples a plane of these sides holds.
+    /// How many samples a plane of these sides holds; the largest number there is, where that is too small to say it.
     pub const fn len(self) -> usize {
-        self.width * self.height
+        self.width.saturating_mul(self.height)
     }
 
     /// Whether a side is 0.

@@ -50,8 +50,9 @@ macro_rules! refusals {
 
 refusals! {
     1 PlaneSize:
-        "a plane side is 0 or above 4,096, or a plane's length is not width × height",
-        "give each plane its own sides";
+        "a plane side is 0 or above 4,096; a float plane's length is not width × height; an 8-bit plane's pitch is below its width \
+         or above 8,192, or its length is not pitch × (height - 1) + width",
+        "give each plane its own sides and pitch; the last line has no filler";
     2 Weights:
         "weights not an odd number from 1 to 15, or one outside 0.0 to 1.0 or NaN",
         "mend the kernel: sigma is 3.5 at most";

@@ -28,6 +28,14 @@ fn a_bad_option_is_an_error() {
         ("--noise 99999999999999999999", "--noise takes a number from 0 to 255, not 99999999999999999999"),
         ("out --noise", "--noise takes a number from 0 to 255"),
         ("--noise 2.5", "--noise takes a number from 0 to 255, not 2.5"),
+        ("--pitch 1919", "--pitch takes a number from 1920 to 8192, not 1919"),
+        ("--pitch 8193", "--pitch takes a number from 1920 to 8192, not 8193"),
+        ("--pitch 0", "--pitch takes a number from 1920 to 8192, not 0"),
+        ("--pitch -2048", "--pitch takes a number from 1920 to 8192, not -2048"),
+        ("--pitch 18446744073709553664", "--pitch takes a number from 1920 to 8192, not 18446744073709553664"),
+        ("--pitch wide", "--pitch takes a number from 1920 to 8192, not wide"),
+        ("out --pitch", "--pitch takes a number from 1920 to 8192"),
+        ("--pitch 2048 --pitch 2048", "--pitch is one too many"),
         ("--smear=14", "there is no option --smear=14"),
         ("--blur 3", "there is no option --blur"),
         ("out --help", "there is no option --help"),
@@ -36,7 +44,7 @@ fn a_bad_option_is_an_error() {
         ("--noise 3 out --noise 3", "--noise is one too many"),
     ] {
         let (folder, output) = demo("bad", &words.split(' ').map(OsStr::new).collect::<Vec<_>>());
-        let expected = format!("demo: {wrong}\nusage: demo [FOLDER] [--noise LEVELS] [--smear TAG]\n");
+        let expected = format!("demo: {wrong}\nusage: demo [FOLDER] [--noise LEVELS] [--smear TAG] [--pitch BYTES]\n");
         assert_eq!(String::from_utf8_lossy(&output.stderr), expected);
         assert_eq!((output.status.code(), output.stdout.len()), (Some(2), 0), "{words}");
         assert_eq!(fs::read_dir(folder).unwrap().count(), 0, "{words} wrote something");
@@ -54,6 +62,31 @@ fn good_options_are_followed() {
     written.sort();
     assert_eq!(written, ["marked.pgm", "marked.png", "sheet.pgm"]);
     assert_eq!(fs::read_dir(folder).unwrap().count(), 1);
+}
+
+#[test]
+fn padded_lines_change_nothing() {
+    let files = ["sheet.pgm", "marked.pgm", "marked.png"];
+    let run = |name: &str, words: &[&str]| {
+        let words = [&["out", "--smear", "14"], words].concat();
+        let (folder, output) = demo(name, &words.iter().map(OsStr::new).collect::<Vec<_>>());
+        assert!(output.status.success() && output.stderr.is_empty(), "{words:?}");
+        (String::from_utf8(output.stdout).unwrap(), files.map(|file| fs::read(folder.join("out").join(file)).unwrap()))
+    };
+    let (packed, pictures) = run("packed", &[]);
+    assert!(packed.contains("Its lines lie 1920 bytes apart (pitch); 0 bytes between them are filler"), "{packed}");
+    // All but the line with the pitch, and the two with times.
+    let told =
+        |text: &str| text.lines().filter(|line| !line.contains("(pitch)") && !line.contains(" ms")).map(String::from).collect();
+    let told_packed: Vec<String> = told(&packed);
+    assert_eq!(told_packed.len() + 3, packed.lines().count());
+    for (pitch, filler) in [("1920", "0"), ("1921", "1079"), ("2048", "138112"), ("8192", "6767488")] {
+        let (padded, pictures_padded) = run("padded", &["--pitch", pitch]);
+        let line = format!("Its lines lie {pitch} bytes apart (pitch); {filler} bytes between them are filler");
+        assert!(padded.contains(&line), "{padded}");
+        assert_eq!(told(&padded), told_packed);
+        assert!(pictures_padded == pictures, "other pictures at a pitch of {pitch} bytes");
+    }
 }
 
 #[test]

@@ -3,16 +3,20 @@
 use muosleap::detector::{bit_code, rotate_bits};
 use muosleap::image_util::{Saddles, gaussian_blur_f32, hessian_response, init_saddle_clusters, kernel, response_threshold};
 use muosleap::painter::paint_tag;
-use muosleap::{Cluster, FAMILIES, Family, Print, Quad, REFUSALS, Refusal, Shape, Table};
+use muosleap::{Cluster, FAMILIES, Family, Picture, Print, Quad, REFUSALS, Refusal, Shape, Table};
 
-const SHAPE: Shape = Shape { width: 20, height: 20 };
 const PRINT: Print = Print { x: 1, y: 1, cell: 2, turn: 0, light: 200, dark: 20 };
+
+/// A picture of 20 × 20 pixels.
+fn picture(bytes: &[u8]) -> Picture<&[u8]> {
+    Picture::packed(bytes, 20, 20)
+}
 
 /// A picture of T16H5's first tag, and its quad.
 fn painted() -> (Vec<u8>, Quad) {
-    let mut plane = vec![0; SHAPE.len()];
-    let quad = Family::T16H5.paint_tag(&mut plane, SHAPE, 0x231B, &PRINT).unwrap();
-    (plane, quad)
+    let mut picture = Picture::packed(vec![0; 400], 20, 20);
+    let quad = Family::T16H5.paint_tag(&mut picture, 0x231B, &PRINT).unwrap();
+    (picture.bytes, quad)
 }
 
 fn quad(corner: f32) -> Quad {
@@ -22,7 +26,7 @@ fn quad(corner: f32) -> Quad {
 #[test]
 fn every_refusal_is_met() {
     let (plane, tag) = painted();
-    let read = |plane: &[u8], quad: Quad| Family::T16H5.try_decode_quad(plane, SHAPE, &quad).map(|_| ());
+    let read = |plane: &[u8], quad: Quad| Family::T16H5.try_decode_quad(&picture(plane), &quad).map(|_| ());
     let unsure: Vec<u8> = plane.iter().enumerate().map(|(k, &shade)| if k % 3 == 0 { 108 } else { shade }).collect();
     let other: Vec<u8> = (0..400).map(|k| if k % 20 < 10 { 0 } else { 255 }).collect();
     let flat = vec![0.5; 9];
@@ -46,9 +50,9 @@ fn every_refusal_is_met() {
         read(&[90; 400], tag),
         read(&unsure, tag),
         read(&other, tag),
-        paint_tag(&mut [0; 400], SHAPE, 4, 2, 0x231B, &Print { cell: 3, ..PRINT }).map(|_| ()),
+        paint_tag(&mut Picture::packed([0; 400], 20, 20), 4, 2, 0x231B, &Print { cell: 3, ..PRINT }).map(|_| ()),
         bit_code(&[], 10, 3).map(|_| ()),
-        Family::T16H5.try_decode_quads(&plane, SHAPE, &vec![tag; 1_025]).map(|_| ()),
+        Family::T16H5.try_decode_quads(&picture(&plane), &vec![tag; 1_025]).map(|_| ()),
     ];
     let all: Vec<_> = REFUSALS.iter().map(|&refusal| Err(refusal)).collect();
     assert_eq!(met[..], all);
@@ -70,17 +74,16 @@ fn families_are_their_tables() {
     for family in FAMILIES {
         let table = family.table();
         let side = 2 * (table.edge + 2 * table.border) as usize + 3;
-        let shape = Shape { width: side, height: side };
-        let mut plane = vec![0; shape.len()];
+        let mut picture = Picture::packed(vec![0; side * side], side, side);
+        let mut again = picture.clone();
         let id = table.codes.len() - 1;
-        let quad = paint_tag(&mut plane, shape, table.edge, table.border, table.codes[id], &PRINT).unwrap();
-        let mut again = vec![0; shape.len()];
-        assert_eq!(family.paint_tag(&mut again, shape, table.codes[id], &PRINT), Ok(quad));
-        assert_eq!(plane, again);
+        let quad = paint_tag(&mut picture, table.edge, table.border, table.codes[id], &PRINT).unwrap();
+        assert_eq!(family.paint_tag(&mut again, table.codes[id], &PRINT), Ok(quad));
+        assert_eq!(picture.bytes, again.bytes);
         for start in 0..4 {
-            let tag = family.try_decode_quad(&plane, shape, &quad.started(start)).unwrap();
+            let tag = family.try_decode_quad(&picture, &quad.started(start)).unwrap();
             assert_eq!((tag.id, tag.turn as usize), (id, (4 - start) % 4));
-            assert_eq!(table.try_decode_quad(&plane, shape, &quad.started(start)), Ok(tag));
+            assert_eq!(table.try_decode_quad(&picture, &quad.started(start)), Ok(tag));
         }
         assert_eq!(table.check_likeness(), Ok(()));
     }
@@ -90,11 +93,11 @@ fn families_are_their_tables() {
 fn a_list_has_a_row_for_each_quad() {
     let (plane, tag) = painted();
     let list = [tag, quad(19.5), tag.started(2), quad(f32::INFINITY)];
-    let rows = Family::T16H5.try_decode_quads(&plane, SHAPE, &list).unwrap();
-    let alone: Vec<_> = list.iter().map(|quad| Family::T16H5.try_decode_quad(&plane, SHAPE, quad)).collect();
+    let rows = Family::T16H5.try_decode_quads(&picture(&plane), &list).unwrap();
+    let alone: Vec<_> = list.iter().map(|quad| Family::T16H5.try_decode_quad(&picture(&plane), quad)).collect();
     assert_eq!(rows, alone);
-    assert_eq!(Family::T16H5.table().try_decode_quads(&plane, SHAPE, &list).unwrap(), alone);
-    assert_eq!(Family::T16H5.try_decode_quads(&plane, SHAPE, &[]), Ok(vec![]));
+    assert_eq!(Family::T16H5.table().try_decode_quads(&picture(&plane), &list).unwrap(), alone);
+    assert_eq!(Family::T16H5.try_decode_quads(&picture(&plane), &[]), Ok(vec![]));
 }
 
 #[test]

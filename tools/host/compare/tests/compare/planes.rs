@@ -274,8 +274,8 @@ fn chain((width, height): (usize, usize), tally: &mut Tally) {
     let mut numbers = Numbers::from(SEED + 2_000 + width as u64);
     let mut saddles = Saddles::new(Shape { width, height });
     for noise in [0, 1, 6, 20, 40] {
-        let sheet = pictures::sheet(Shape { width, height }, noise, &mut numbers);
-        let samples = image_util::to_unit(&sheet.pixels);
+        let (sheet, _) = pictures::sheet(Shape { width, height }, noise, &mut numbers);
+        let samples = image_util::to_unit(&sheet);
         let ours: Vec<Cluster> = saddles.find(&samples, &image_util::kernel(1.5)).unwrap().collect();
         let plane = Plane { width, height, samples };
         let blurred = gaussian_blur_f32(&plane.image(), 1.5);

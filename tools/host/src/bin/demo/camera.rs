@@ -1,52 +1,66 @@
 //! The picture: a sheet of tags on a table, under a lamp, with a camera's noise.
 
+use crate::options::Options;
 use crate::{FAMILY, SIDE};
 use muosleap::sheet::Sheet;
-use muosleap::{Point, Quad, Refusal, Shape};
+use muosleap::{Picture, Point, Quad, Refusal};
+use std::ops::RangeInclusive;
 
 /// Tags with misprinted modules, and which. The family's match threshold is 3, so two are read as if there were none.
 pub const MISPRINTED: [(usize, u64); 2] = [(7, 1 << 20), (22, 1 << 3 | 1 << 30)];
 
 /// Camera size.
-const SHAPE: Shape = Shape { width: 1920, height: 1080 };
+const WIDTH: usize = 1920;
+const HEIGHT: usize = 1080;
+
+/// How many bytes a line may take, with its filler.
+pub const PITCHES: RangeInclusive<usize> = WIDTH..=8_192;
+
 const SHEET: Sheet = Sheet { x: 474, y: 54, columns: SIDE, rows: SIDE, cell: 12, gap: 3, light: 225, dark: 35 };
 const TABLE: u8 = 95;
 const MARGIN: usize = 28;
 
 /// A picture, and where its tags are.
 pub struct Camera {
-    pub shape: Shape,
-    pub picture: Vec<u8>,
+    pub picture: Picture<Vec<u8>>,
     /// The tags' quads, each clockwise from the print's first corner.
     pub quads: Vec<Quad>,
 }
 
 impl Camera {
-    /// Paints the sheet, smears a tag of it if one is named, and adds light and noise.
-    pub fn photograph(noise: usize, smear: Option<usize>) -> Result<Camera, Refusal> {
+    /// Paints the sheet, smears a tag of it if one is named, adds light and noise, and pads the lines if a pitch is named.
+    pub fn photograph(options: &Options) -> Result<Camera, Refusal> {
         let mut words = FAMILY.codes()[..SIDE * SIDE].to_vec();
         MISPRINTED.iter().for_each(|&(id, modules)| words[id] ^= modules);
-        let mut picture = vec![TABLE; SHAPE.len()];
+        let mut picture = Picture::packed(vec![TABLE; WIDTH * HEIGHT], WIDTH, HEIGHT);
         let paper = SHEET.shape(FAMILY);
         for y in SHEET.y - MARGIN..SHEET.y + paper.height + MARGIN {
-            let row = y * SHAPE.width + SHEET.x;
-            picture[row - MARGIN..row + paper.width + MARGIN].fill(SHEET.light);
+            let row = y * WIDTH + SHEET.x;
+            picture.bytes[row - MARGIN..row + paper.width + MARGIN].fill(SHEET.light);
         }
-        let quads = SHEET.paint(FAMILY, &words, &mut picture, SHAPE)?;
-        let mut camera = Camera { shape: SHAPE, picture, quads };
-        if let Some(tag) = smear {
+        let quads = SHEET.paint(FAMILY, &words, &mut picture)?;
+        let mut camera = Camera { picture, quads };
+        if let Some(tag) = options.smear {
             camera.smear(camera.quads[tag]);
         }
-        camera.expose(noise);
+        camera.expose(options.noise);
+        if let Some(pitch) = options.pitch {
+            camera.pad(pitch);
+        }
         Ok(camera)
+    }
+
+    /// How many bytes of the picture are filler.
+    pub fn filler(&self) -> usize {
+        self.picture.bytes.len() - WIDTH * HEIGHT
     }
 
     /// A grey smear across the middle of a tag.
     fn smear(&mut self, quad: Quad) {
         let middle = |side: fn(Point) -> f32| quad.corners.map(side).iter().sum::<f32>() / 4.0;
         let (x, y) = (middle(|corner| corner.x), middle(|corner| corner.y));
-        for (place, pixel) in self.picture.iter_mut().enumerate() {
-            let (dx, dy) = ((place % SHAPE.width) as f32 - x, (place / SHAPE.width) as f32 - y);
+        for (place, pixel) in self.picture.bytes.iter_mut().enumerate() {
+            let (dx, dy) = ((place % WIDTH) as f32 - x, (place / WIDTH) as f32 - y);
             if (dx + dy).abs() < 30.0 && (dx - dy).abs() < 75.0 {
                 *pixel = 130;
             }
@@ -56,13 +70,22 @@ impl Camera {
     /// Less light toward the picture's corners, and noise with about this deviation.
     fn expose(&mut self, noise: usize) {
         let mut numbers = Numbers(0x9e37_79b9_7f4a_7c15);
-        for (place, pixel) in self.picture.iter_mut().enumerate() {
-            let across = (place % SHAPE.width) as f32 / SHAPE.width as f32 - 0.4;
-            let down = (place / SHAPE.width) as f32 / SHAPE.height as f32 - 0.4;
+        for (place, pixel) in self.picture.bytes.iter_mut().enumerate() {
+            let across = (place % WIDTH) as f32 / WIDTH as f32 - 0.4;
+            let down = (place / WIDTH) as f32 / HEIGHT as f32 - 0.4;
             let light = 1.06 - 0.5 * (across * across + down * down);
             let shade = *pixel as f32 * light + noise as f32 * numbers.spread();
             *pixel = shade.round().clamp(0.0, 255.0) as u8;
         }
+    }
+
+    /// Fills each line but the last up with noise to `pitch` bytes, as a camera does that does not care what it sends there.
+    fn pad(&mut self, pitch: usize) {
+        let mut numbers = Numbers(0xd1b5_4a32_d192_ed03);
+        let length = pitch * (HEIGHT - 1) + WIDTH;
+        let mut bytes: Vec<u8> = (0..length).map(|_| (numbers.next() >> 32) as u8).collect();
+        bytes.chunks_mut(pitch).zip(self.picture.lines()).for_each(|(to, line)| to[..WIDTH].copy_from_slice(line));
+        self.picture = Picture { bytes, width: WIDTH, height: HEIGHT, stride: pitch };
     }
 }
 

@@ -23,7 +23,7 @@ pub struct Drawing {
 /// Draws the clusters, and each tag in green with its first corner in red, or in red with its refusal.
 pub fn draw(camera: &Camera, saddles: &Saddles, quads: &[Quad], rows: &[Result<Tag, Refusal>]) -> Drawing {
     let pale = |&shade: &u8| [(shade as u16 * 3 / 4 + 60).min(255) as u8; 3];
-    let mut drawing = Drawing { shape: camera.shape, pixels: camera.picture.iter().map(pale).collect() };
+    let mut drawing = Drawing { shape: camera.picture.shape(), pixels: camera.picture.lines().flatten().map(pale).collect() };
     for (pixel, &response) in drawing.pixels.iter_mut().zip(saddles.response()) {
         if response == f32::MAX {
             *pixel = CLUSTER;
@@ -112,7 +112,11 @@ impl Drawing {
         fs::create_dir_all(folder)?;
         println!();
         for (name, bytes, what) in [
-            ("sheet.pgm", pgm(&camera.picture), "the picture as the camera gives it"),
+            (
+                "sheet.pgm",
+                pgm(&camera.picture.lines().collect::<Vec<_>>().concat()),
+                "the picture as the camera gives it, without filler",
+            ),
             ("marked.pgm", pgm(&marked), "the picture with clusters and corners drawn in"),
             (
                 "marked.png",

@@ -8,7 +8,7 @@ mod png;
 
 use camera::Camera;
 use muosleap::image_util::{Saddles, kernel, to_unit};
-use muosleap::{Family, Point, Quad, Refusal, Shape, Tag};
+use muosleap::{Family, Picture, Point, Quad, Refusal, Tag};
 use options::{Options, USAGE};
 use std::error::Error;
 use std::process::ExitCode;
@@ -38,8 +38,8 @@ fn main() -> ExitCode {
 }
 
 fn run(options: &Options) -> Result<(), Box<dyn Error>> {
-    let camera = Camera::photograph(options.noise, options.smear)?;
-    let mut saddles = Saddles::new(camera.shape);
+    let camera = Camera::photograph(options)?;
+    let mut saddles = Saddles::new(camera.picture.shape());
     let found = Found::read(&camera, &mut saddles)?;
     print_summary(options, &camera, &found);
     print_table(&found.rows);
@@ -71,19 +71,20 @@ impl Found {
         let quads: Vec<Quad> = camera.quads.iter().map(|quad| near(quad, &centers)).collect();
         let starts: Vec<Quad> = quads.iter().flat_map(|&quad| (0..4).map(move |start| quad.started(start))).collect();
         let start = Instant::now();
-        let rows = FAMILY.try_decode_quads(&camera.picture, camera.shape, &starts)?;
+        let rows = FAMILY.try_decode_quads(&camera.picture, &starts)?;
         Ok(Found { clusters, quads, rows, times: [clustered, start.elapsed()] })
     }
 }
 
 fn print_summary(options: &Options, camera: &Camera, found: &Found) {
-    let Shape { width, height } = camera.shape;
+    let Picture { width, height, stride, .. } = camera.picture;
     let misprinted = camera::MISPRINTED.map(|(id, _)| id.to_string()).join(" and ");
     let [clustered, read] = found.times.map(|time| time.as_secs_f64() * 1e3);
     let corners = |quads: &[Quad]| quads.iter().flat_map(|quad| quad.corners).collect::<Vec<Point>>();
     let away = corners(&found.quads).into_iter().zip(corners(&camera.quads)).map(|(p, q)| distance(p, q)).fold(0.0, f32::max);
     println!("A sheet of {SIDE} x {SIDE} tags of {FAMILY:?} on a picture of {width} x {height} pixels, with noise of about");
-    println!("{} levels. Tags {misprinted} have misprinted modules.\n", options.noise);
+    println!("{} levels. Tags {misprinted} have misprinted modules.", options.noise);
+    println!("Its lines lie {stride} bytes apart (pitch); {} bytes between them are filler and hold noise.\n", camera.filler());
     println!("Picture to clusters: {} clusters in {clustered:.1} ms (blur, response, threshold, clusters).", found.clusters);
     println!("Each tag's corners are the cluster centres nearest to where they were painted, at most {away:.2} pixel away.");
     println!("Quads to tags: {} quads in {read:.2} ms, each tag from all four starts.\n", found.rows.len());

@@ -1,10 +1,12 @@
 //! What the command line says.
 
 use crate::SIDE;
+use crate::camera::PITCHES;
 use std::ffi::OsString;
+use std::ops::RangeInclusive;
 use std::path::PathBuf;
 
-pub const USAGE: &str = "usage: demo [FOLDER] [--noise LEVELS] [--smear TAG]";
+pub const USAGE: &str = "usage: demo [FOLDER] [--noise LEVELS] [--smear TAG] [--pitch BYTES]";
 
 /// Where to write, and what the picture is to be like.
 pub struct Options {
@@ -13,18 +15,21 @@ pub struct Options {
     pub noise: usize,
     /// A tag to be smeared.
     pub smear: Option<usize>,
+    /// How many bytes a line takes, with its filler. Without it lines have no filler.
+    pub pitch: Option<usize>,
 }
 
 impl Options {
-    /// The options, or what is wrong with them: a word that is not known, one too many, or a number that is missing or too large.
+    /// The options, or what is wrong with them: a word that is not known, one too many, or a number that is missing or not allowed.
     /// Where no folder is named, it is the one in DEMO_FOLDER, which `./demo` sets, else target/demo.
     pub fn read(mut words: impl Iterator<Item = OsString>) -> Result<Options, String> {
-        let (mut folder, mut noise, mut smear) = (None, None, None);
+        let (mut folder, mut noise, mut smear, mut pitch) = (None, None, None, None);
         while let Some(word) = words.next() {
             let name = word.to_string_lossy().into_owned();
             let twice = match name.as_str() {
-                "--noise" => noise.replace(number(&name, words.next(), 255)?).is_some(),
-                "--smear" => smear.replace(number(&name, words.next(), SIDE * SIDE - 1)?).is_some(),
+                "--noise" => noise.replace(number(&name, words.next(), 0..=255)?).is_some(),
+                "--smear" => smear.replace(number(&name, words.next(), 0..=SIDE * SIDE - 1)?).is_some(),
+                "--pitch" => pitch.replace(number(&name, words.next(), PITCHES)?).is_some(),
                 "" => return Err("the folder's name is empty".into()),
                 _ if name.starts_with('-') => return Err(format!("there is no option {name}")),
                 _ => folder.replace(word).is_some(),
@@ -34,14 +39,14 @@ impl Options {
             }
         }
         let folder = folder.or_else(|| std::env::var_os("DEMO_FOLDER")).unwrap_or_else(|| "target/demo".into());
-        Ok(Options { folder: folder.into(), noise: noise.unwrap_or(6), smear })
+        Ok(Options { folder: folder.into(), noise: noise.unwrap_or(6), smear, pitch })
     }
 }
 
-/// The number after an option, from 0 to `most`.
-fn number(option: &str, word: Option<OsString>, most: usize) -> Result<usize, String> {
-    let asked = format!("{option} takes a number from 0 to {most}");
+/// The number after an option, one of those that it takes.
+fn number(option: &str, word: Option<OsString>, taken: RangeInclusive<usize>) -> Result<usize, String> {
+    let asked = format!("{option} takes a number from {} to {}", taken.start(), taken.end());
     let word = word.ok_or_else(|| asked.clone())?;
-    let number = word.to_str().and_then(|word| word.parse().ok()).filter(|&number| number <= most);
+    let number = word.to_str().and_then(|word| word.parse().ok()).filter(|number| taken.contains(number));
     number.ok_or_else(|| format!("{asked}, not {}", word.to_string_lossy()))
 }

@@ -30,7 +30,7 @@ impl Planes {
     /// A sheet of tags with noise, and every buffer written once.
     pub fn new(width: usize, height: usize) -> Planes {
         let shape = Shape { width, height };
-        let img = to_unit(&pictures::sheet(shape, 6, &mut Numbers::from(SEED + 6_000)).pixels);
+        let img = to_unit(&pictures::sheet(shape, 6, &mut Numbers::from(SEED + 6_000)).0);
         let plane = vec![1.0; shape.len()];
         let (worklist, rows) = (vec![1; worklist_len(shape)], vec![[1; 3]; 65_536]);
         let (temp, blurred, response, work) = (plane.clone(), plane.clone(), plane.clone(), plane);
