@@ -4,6 +4,7 @@
 //! crate adds types: a refusal with a name and a sentence instead of a number, small structs for pictures, points, quads and
 //! tables. It also has the few host parts that the proved code leaves to Rust: [`image_util::kernel`], [`image_util::to_unit`].
 //!
+//! - [`Picture`]: an 8-bit picture, with or without filler behind its lines.
 //! - [`detector`]: words, levels and quads, by [`Family`] or by a [`Table`] of your own.
 //! - [`image_util`]: blur, response, threshold, clusters and their centres.
 //! - [`painter`]: paints a tag. [`sheet`]: a grid of them, in Rust over the painter.

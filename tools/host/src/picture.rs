@@ -4,14 +4,14 @@ use crate::Shape;
 
 /// An 8-bit picture as it lies in memory: its bytes, its sides, and its stride, which is the pitch of the C interface.
 ///
-/// The bytes may be borrowed or owned. Any of `&[u8]`, `&mut [u8]`, `Vec<u8>` can be read, and the last two can be painted on. No
-/// picture is copied.
+/// The bytes may be borrowed or owned: `&[u8]`, `&mut [u8]`, `Vec<u8>` and arrays can be read, and all but the first painted on.
+/// No call copies a picture.
 ///
 /// The lines stand from the top down. Behind each line but the last are `stride - width` bytes of filler, as many cameras send
 /// them, and pixel (x, y) is byte `y * stride + x`. So there are `stride * (height - 1) + width` bytes. Filler may hold anything;
 /// it is never read, and never written.
 ///
-/// Every number may stand here. Where the sides, the stride and the number of bytes do not fit together, or a side is above 4,096 or
+/// Every number may stand here. Where the sides, the stride and the number of bytes do not fit together, a side is above 4,096 or
 /// the stride above 8,192, the call that takes the picture is refused: [`Refusal::PlaneSize`](crate::Refusal::PlaneSize).
 ///
 /// ```

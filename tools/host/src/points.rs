@@ -1,6 +1,7 @@
 //! Sides of a plane, points, quads.
 
-/// The sides of a plane of floats. It is a slice with its rows one right after the other. (A [`Picture`](crate::Picture) is of bytes.)
+/// Width and height. A plane of floats has nothing more: it is a slice with its rows one right after the other. An 8-bit
+/// [`Picture`](crate::Picture) has a stride too.
 #[derive(Clone, Copy, PartialEq, Eq, Debug)]
 pub struct Shape {
     /// Samples in a row.

@@ -52,8 +52,8 @@ impl Sheet {
     }
 
     /// Paints the sheet over a part of a picture. The lower left tag is the first of `words`; they run along a row and then upward,
-    /// and stop where the words or the grid end. Answers the tags' quads in that order. Pixels outside the sheet and filler stay as
-    /// they were. Refusals 1, 14.
+    /// and stop where the words or the grid end. Answers the tags' quads in that order. Pixels outside the sheet and filler stay
+    /// as they were, and where it is refused all of them. Refusals 1, 14.
     pub fn paint(&self, family: Family, words: &[u64], picture: &mut Picture<impl AsMut<[u8]>>) -> Result<Vec<Quad>, Refusal> {
         let &mut Picture { ref mut bytes, width, height, stride } = picture;
         let bytes = bytes.as_mut();
@@ -74,27 +74,33 @@ impl Sheet {
             part.fill(self.x + column * (tag + gap), self.y + row * (tag + gap), square, self.dark);
         }
         let mut quads = Vec::new();
-        for (place, (painted, quad)) in tags.iter().enumerate() {
+        for (place, Alone { picture, quad }) in tags.into_iter().enumerate() {
             let (column, row) = (place % self.columns, self.rows - 1 - place / self.columns);
             let (x, y) = (self.x + gap + column * (tag + gap), self.y + gap + row * (tag + gap));
-            painted.lines().take(tag).enumerate().for_each(|(k, line)| part.row(x, y + k, tag).copy_from_slice(&line[..tag]));
-            quads.push(moved(*quad, x as f32, y as f32));
+            picture.lines().take(tag).enumerate().for_each(|(k, line)| part.row(x, y + k, tag).copy_from_slice(&line[..tag]));
+            quads.push(moved(quad, x as f32, y as f32));
         }
         Ok(quads)
     }
 
-    /// Each tag of the grid at the upper left of a picture of its own, one pixel wider and higher than the tag, and its quad there.
-    fn tags(&self, family: Family, words: &[u64]) -> Result<Vec<(Picture<Vec<u8>>, Quad)>, Refusal> {
+    /// Each tag of the grid by itself.
+    fn tags(&self, family: Family, words: &[u64]) -> Result<Vec<Alone>, Refusal> {
         let print = Print { x: 0, y: 0, cell: self.cell, turn: 0, light: self.light, dark: self.dark };
         let painted = |&word: &u64| {
             let side = self.sides(family).0 + 1;
             let mut picture = Picture::packed(vec![0; side * side], side, side);
             // The picture is as the painter asks, unless cells are too large for it: what is refused is the print.
             let quad = family.paint_tag(&mut picture, word, &print).map_err(|_| Refusal::Painting)?;
-            Ok((picture, quad))
+            Ok(Alone { picture, quad })
         };
         words.iter().take(self.columns * self.rows).map(painted).collect()
     }
+}
+
+/// A tag at the upper left of a picture of its own, which is one pixel wider and higher than the tag.
+struct Alone {
+    picture: Picture<Vec<u8>>,
+    quad: Quad,
 }
 
 /// A picture that is painted on part by part.

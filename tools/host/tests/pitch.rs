@@ -1,5 +1,5 @@
-//! Padded lines. Refusal 1 at the limits of sides, pitch and length, for all six functions that take an 8-bit plane; and whatever the
-//! filler holds, a plane reads and paints as its lines without filler do, and its filler stays.
+//! Padded lines. Refusal 1 at the limits of sides, pitch and length, for all six functions that take an 8-bit plane; and
+//! whatever the filler holds, a plane reads and paints as its lines without filler do, and its filler stays.
 
 use muosleap::image_util::{Saddles, kernel, to_unit};
 use muosleap::sheet::Sheet;
@@ -36,7 +36,7 @@ impl Given {
     /// anything that it was lent.
     fn answers(self) -> [u32; 6] {
         let Given(length, width, height, pitch) = self;
-        let plane = Numbers(7).bytes(length);
+        let plane = vec![0xa5; length];
         let mut lent = plane.clone();
         let quad = [5_000.0; 8];
         let (mut id, mut turn, mut eight) = (77, 88, [0.5; 8]);
@@ -189,8 +189,8 @@ fn pitches(width: usize) -> [usize; 5] {
     [width, width + 1, width + 13, 2 * width, 8_192]
 }
 
-/// A picture with this pitch and every kind of filler: zeros, 255, noise, the next line's pixels, which is what follows where there
-/// is no filler, and the line's own pixels again, tag and all.
+/// A picture with this pitch and every kind of filler: zeros, 255, noise, the next line's pixels, which is what follows where
+/// there is no filler, and the line's own pixels again, tag and all.
 fn padded(picture: &Picture<Vec<u8>>, pitch: usize) -> [Picture<Vec<u8>>; 5] {
     let &Picture { ref bytes, width, height, .. } = picture;
     let mut numbers = Numbers(0x2545_f491_4f6c_dd1d);
@@ -253,19 +253,22 @@ fn read(picture: &Picture<Vec<u8>>, family: Family, quads: &[[f32; 8]]) -> [Vec<
     [quads.iter().flat_map(|quad| read_alone(picture, family, quad)).collect(), read_list(picture, family, quads)]
 }
 
-/// A painted tag, and pictures that are refused at its quad; and quads to be read in them.
+/// A painted tag, one with a pixel for each module, pictures that are refused at its quad; and quads to be read in them.
 fn scenes(family: Family) -> (Vec<Picture<Vec<u8>>>, Vec<[f32; 8]>) {
     let (width, height) = (47, 41);
     let mut painted = Picture::packed(vec![0; width * height], width, height);
+    let mut small = painted.clone();
     let print = Print { x: 12, y: 4, cell: 3, turn: 1, light: 210, dark: 40 };
     let quad = family.paint_tag(&mut painted, family.codes()[5], &print).unwrap();
+    let small_quad = family.paint_tag(&mut small, family.codes()[6], &Print { cell: 1, ..print }).unwrap();
     let change = |change: &dyn Fn(usize, u8) -> u8| {
         let bytes = painted.bytes.iter().enumerate().map(|(place, &level)| change(place, level)).collect();
         Picture::packed(bytes, width, height)
     };
     let (flat, unsure) = (change(&|_, _| 90), change(&|place, level| if place % 7 < 3 { 125 } else { level }));
     let stripes = change(&|place, _| if place % width % 9 < 5 { 30 } else { 200 });
-    (vec![painted, flat, unsure, stripes], quads_about(quad, width as f32, height as f32))
+    let quads = [quads_about(quad, width as f32, height as f32), quads_about(small_quad, width as f32, height as f32)].concat();
+    (vec![painted, small, flat, unsure, stripes], quads)
 }
 
 /// A tag's four starts, moved quads, ones at the right edge, in the filler behind it, and out of range.
@@ -319,8 +322,8 @@ fn paint(picture: &mut Picture<Vec<u8>>, family: Option<Family>, word: u64, prin
     (answer, quad.map(f32::to_bits))
 }
 
-/// Prints for a picture of 47 × 41 pixels: good ones, one of them as far to the right and down as may be, and refused ones, some of
-/// which would fit if filler were part of the picture.
+/// Prints for a picture of 47 × 41 pixels: good ones, one of them as far to the right and down as may be, and refused ones, some
+/// of which would fit if filler were part of the picture.
 fn prints(side: usize) -> Vec<(u32, Print)> {
     let print = Print { x: 3, y: 2, cell: 3, turn: 0, light: 210, dark: 40 };
     let (x, y) = (46 - 3 * side, 40 - 3 * side);

@@ -4,7 +4,8 @@ use muosleap::sheet::Sheet;
 use muosleap::{Family, Picture, Quad, Shape};
 use oracle::out::Numbers;
 
-/// As many tags of T36H11, 5 pixels a module, as fit in rows and columns, and noise of up to `noise` either way; and the tags' quads.
+/// As many tags of T36H11, 5 pixels a module, as fit in rows and columns, and noise of up to `noise` either way. Beside it the
+/// tags' quads.
 pub fn sheet(shape: Shape, noise: usize, numbers: &mut Numbers) -> (Picture<Vec<u8>>, Vec<Quad>) {
     let family = Family::T36H11;
     let mut sheet = Sheet { x: 1, y: 1, columns: 0, rows: 0, cell: 5, gap: 3, light: 200, dark: 40 };

@@ -1,19 +1,42 @@
 //! Readings of quads and lists, by the whole of the original's `try_decode_quad` over a least-squares solver that stands in for
 //! faer. A quad is compared where no module lies so near to a half that the solver's last bits could matter (tools/oracle/README.md).
+//! The original knows no filler: to a picture with padded lines it says what it says to the lines without.
 
 use crate::tally::{Job, Tally, parts};
-use muosleap::{FAMILIES, Print, Quad, Refusal, Shape, Table, Tag};
-use muosleap_compare::{Numbers, SEED};
+use muosleap::{FAMILIES, Picture, Print, Quad, Refusal, Shape, Table, Tag};
+use muosleap_compare::{Numbers, SEED, pictures};
 use oracle::painter;
-use oracle::quads::{self, Picture, quads_of};
+use oracle::quads::{self, quads_of};
 
 pub fn jobs() -> Vec<Job> {
     [
-        parts("try_decode_quad: tags of all families, moved and damaged", 10, tags),
-        parts("try_decode_quad: pictures of noise, quads anywhere", 5, noise),
-        parts("paint_tag, and the four starts read with 0 to t - 1 misprints", 5, painted),
+        parts("try_decode_quad: tags of all families, moved and damaged", 10, |k, tally| tags(k, Lines::Packed, tally)),
+        parts("try_decode_quad: these tags, lines padded", 10, |k, tally| tags(k, Lines::padded(k), tally)),
+        parts("try_decode_quad: pictures of noise, quads anywhere", 5, |k, tally| noise(k, Lines::Packed, tally)),
+        parts("try_decode_quad: these pictures of noise, lines padded", 5, |k, tally| noise(k, Lines::padded(k), tally)),
+        parts("paint_tag, and the four starts read with 0 to t - 1 misprints", 5, |k, tally| painted(k, Lines::Packed, tally)),
+        parts("paint_tag, and the four starts, lines padded", 5, |k, tally| painted(k, Lines::padded(k), tally)),
     ]
     .concat()
+}
+
+/// How pictures are lent: without filler, or with noise behind each line, at one pitch after the other.
+enum Lines {
+    Packed,
+    Padded(Numbers),
+}
+
+impl Lines {
+    fn padded(part: u64) -> Lines {
+        Lines::Padded(Numbers::from(SEED + 3_300 + part))
+    }
+
+    fn lend(&mut self, pixels: Vec<u8>, Shape { width, height }: Shape) -> Picture<Vec<u8>> {
+        let packed = Picture::packed(pixels, width, height);
+        let Lines::Padded(numbers) = self else { return packed };
+        let pitch = [width + 1, width + 13, 2 * width, width + numbers.below(200), 8_192][numbers.below(5)];
+        pictures::padded(&packed, pitch, numbers)
+    }
 }
 
 /// A row as numbers: refusal, id, turn, bits of the corners.
@@ -32,30 +55,31 @@ fn quad_of(corners: &quads::Quad) -> Quad {
 }
 
 /// Reads each quad alone and all in one list, with the family by number and as a lent table.
-fn read_all(picture: &Picture, corners: &[quads::Quad], tally: &mut Tally) {
+fn read_all(picture: &quads::Picture, corners: &[quads::Quad], lines: &mut Lines, tally: &mut Tally) {
     let (family, shape) = (FAMILIES[picture.number as usize], Shape { width: picture.width, height: picture.height });
+    let lent = lines.lend(picture.pixels.clone(), shape);
     let clear: Vec<&quads::Quad> = corners.iter().filter(|corners| picture.is_clear(corners)).collect();
     let ours: Vec<Quad> = clear.iter().map(|corners| quad_of(corners)).collect();
-    let listed = family.try_decode_quads(&picture.pixels, shape, &ours).unwrap();
-    let lent = family.table().try_decode_quads(&picture.pixels, shape, &ours).unwrap();
+    let listed = family.try_decode_quads(&lent, &ours).unwrap();
+    let listed_by_table = family.table().try_decode_quads(&lent, &ours).unwrap();
     for (k, quad) in ours.iter().enumerate() {
         let (refusal, id, turn, corners) = picture.read(clear[k]);
         let original = (refusal as u32, id, turn, <[f32; 8]>::from(quad_of(&corners)).map(f32::to_bits));
-        let input = || format!("{family:?}, {} x {}, {quad:?}", picture.width, picture.height);
-        tally.same(row(family.try_decode_quad(&picture.pixels, shape, quad)), original, input);
-        tally.same(row(family.table().try_decode_quad(&picture.pixels, shape, quad)), original, input);
+        let input = || format!("{family:?}, {} x {}, pitch {}, {quad:?}", lent.width, lent.height, lent.stride);
+        tally.same(row(family.try_decode_quad(&lent, quad)), original, input);
+        tally.same(row(family.table().try_decode_quad(&lent, quad)), original, input);
         tally.same(row(listed[k]), original, input);
-        tally.same(row(lent[k]), original, input);
+        tally.same(row(listed_by_table[k]), original, input);
     }
 }
 
-fn tags(part: u64, tally: &mut Tally) {
+fn tags(part: u64, mut lines: Lines, tally: &mut Tally) {
     let mut numbers = Numbers::from(SEED + 3_000 + part);
     for _ in 0..600 {
         let (dark, light) = (numbers.below(120) as u8, 130 + numbers.below(126) as u8);
         let cell = 1 + numbers.below(5);
         let side = 12 * cell + 12;
-        let mut picture = Picture::new((part % 5) as u8, side, side + numbers.below(5), |_| light);
+        let mut picture = quads::Picture::new((part % 5) as u8, side, side + numbers.below(5), |_| light);
         let codes = picture.detector.code_list().to_vec();
         let places = picture.detector.edge() as usize * picture.detector.edge() as usize;
         let mut word = codes[numbers.below(codes.len())];
@@ -69,24 +93,24 @@ fn tags(part: u64, tally: &mut Tally) {
             *pixel = if shadow && place % side > edge { level / 2 } else { level.min(255) } as u8;
         }
         let corners = quads_of(&picture, &quad, &mut numbers);
-        read_all(&picture, &corners, tally);
+        read_all(&picture, &corners, &mut lines, tally);
     }
 }
 
-fn noise(part: u64, tally: &mut Tally) {
+fn noise(part: u64, mut lines: Lines, tally: &mut Tally) {
     let mut numbers = Numbers::from(SEED + 3_100 + part);
     for _ in 0..500 {
         let (width, height) = (1 + numbers.below(60), 1 + numbers.below(60));
         let (least, range) = (numbers.below(128), 40 + numbers.below(88));
-        let picture = Picture::new(part as u8, width, height, |_| (least + numbers.below(range)) as u8);
+        let picture = quads::Picture::new(part as u8, width, height, |_| (least + numbers.below(range)) as u8);
         let (w, h) = (width as f32 - 1.0, height as f32 - 1.0);
         let corners = quads_of(&picture, &[(0.0, 0.0), (w, 0.0), (w, h), (0.0, h)], &mut numbers);
-        read_all(&picture, &corners, tally);
+        read_all(&picture, &corners, &mut lines, tally);
     }
 }
 
 /// The painter against a second one, and what document 01 says of painted tags at any turn and start.
-fn painted(part: u64, tally: &mut Tally) {
+fn painted(part: u64, mut lines: Lines, tally: &mut Tally) {
     let mut numbers = Numbers::from(SEED + 3_200 + part);
     let family = FAMILIES[part as usize];
     let table = family.table();
@@ -99,23 +123,27 @@ fn painted(part: u64, tally: &mut Tally) {
         let (id, misprints) = (numbers.below(table.codes.len()), numbers.below(table.hamming_distance as usize));
         let places = table.edge as usize * table.edge as usize;
         let word = (0..misprints).fold(table.codes[id], |word, k| word ^ 1 << ((7 * k + id) % places));
-        let mut plane = vec![7; shape.len()];
+        let mut picture = lines.lend(vec![7; shape.len()], shape);
+        let mut expected = picture.clone();
         let print = Print { x, y, cell, turn, light, dark };
-        let quad = family.paint_tag(&mut plane, shape, word, &print).unwrap();
-        let input = || format!("{family:?}, {shape:?}, {print:?}, word {word:#x}");
+        let quad = family.paint_tag(&mut picture, word, &print).unwrap();
+        let input = || format!("{family:?}, {shape:?}, pitch {}, {print:?}, word {word:#x}", picture.stride);
         let second = second(&table, shape, word, &print);
-        tally.same(&plane, &second.painted(), input);
+        // Filler stays as it was.
+        let (to, from) = (expected.bytes.chunks_mut(picture.stride), second.painted());
+        to.zip(from.chunks(shape.width)).for_each(|(to, line)| to[..shape.width].copy_from_slice(line));
+        tally.same(&picture.bytes, &expected.bytes, input);
         tally.same(quad, quad_of(&second.quad()), input);
         let mut print_order = quad;
         print_order.corners.reverse();
         for start in 0..4 {
-            let read = family.try_decode_quad(&plane, shape, &quad.started(start));
+            let read = family.try_decode_quad(&picture, &quad.started(start));
             let promised = (id, (4 - start as u8) % 4, print_order);
             tally.same(read.map(|tag| (tag.id, tag.turn, tag.corners)), Ok(promised), input);
         }
         let four: Vec<Quad> = (0..4).map(|start| quad.started(start)).collect();
-        let alone: Vec<_> = four.iter().map(|quad| family.try_decode_quad(&plane, shape, quad)).collect();
-        tally.same(family.try_decode_quads(&plane, shape, &four), Ok(alone), input);
+        let alone: Vec<_> = four.iter().map(|quad| family.try_decode_quad(&picture, quad)).collect();
+        tally.same(family.try_decode_quads(&picture, &four), Ok(alone), input);
     }
 }
 

@@ -1,8 +1,8 @@
-//! A refused call leaves every lent buffer as it was, bit for bit: NaN payloads, the worklist, the small outputs. An accepted one
-//! leaves what lies beyond its answer. This needs no file of the original's.
+//! A refused call leaves every lent buffer as it was, bit for bit: NaN payloads, the worklist, planes with their filler, the
+//! small outputs. An accepted one leaves what lies beyond its answer, and filler. This needs no file of the original's.
 
-use muosleap::{Family, c};
-use muosleap_compare::{Numbers, SEED};
+use muosleap::{Family, Picture, c};
+use muosleap_compare::{Numbers, SEED, pictures};
 
 /// The bits of what is lent to a call.
 trait Bits: Clone {
@@ -87,6 +87,16 @@ impl Calls {
     fn bytes(&mut self, count: usize) -> Vec<u8> {
         (0..count).map(|_| self.numbers.next() as u8).collect()
     }
+
+    /// A pitch for planes of 20 × 20 pixels.
+    fn pitch(&mut self) -> usize {
+        [20, 21, 33, 40, 120][self.numbers.below(5)]
+    }
+
+    /// A plane of 20 × 20 pixels, with noise as filler.
+    fn padded(&mut self, pixels: &[u8], pitch: usize) -> Vec<u8> {
+        pictures::padded(&Picture::packed(pixels, 20, 20), pitch, &mut self.numbers).bytes
+    }
 }
 
 pub fn main() {
@@ -95,6 +105,7 @@ pub fn main() {
         words(&mut calls);
         levels(&mut calls);
         quads(&mut calls);
+        frames(&mut calls);
         lists(&mut calls);
         painter(&mut calls);
         blur(&mut calls);
@@ -103,11 +114,13 @@ pub fn main() {
         centers(&mut calls);
     }
     let rows = beyond_the_answer(&mut calls);
+    let paintings = filler(&mut calls);
     println!(
-        "refused calls leave every buffer as it was, NaN payloads included: {} calls, {} numbers",
+        "refused calls leave every buffer as it was, NaN payloads and filler included: {} calls, {} numbers",
         calls.refused, calls.words
     );
     println!("accepted calls leave what lies beyond their answer: {rows} calls");
+    println!("accepted paintings leave filler: {paintings} calls");
 }
 
 fn words(calls: &mut Calls) {
@@ -157,106 +170,140 @@ fn bad_quads() -> Vec<(u32, [f32; 8])> {
     quads
 }
 
+/// A plane and the outputs of a reading.
+fn lent(calls: &mut Calls, pixels: &[u8], pitch: usize) -> (Vec<u8>, usize, u8, [f32; 8]) {
+    (calls.padded(pixels, pitch), calls.numbers.next() as usize, calls.numbers.next() as u8, calls.eight())
+}
+
 fn quads(calls: &mut Calls) {
-    let plane = [90u8; 400];
+    let grey = [90u8; 400];
     let stripes: Vec<u8> = (0..400).map(|k| if k % 20 < 10 { 30 } else { 200 }).collect();
     let unsure: Vec<u8> = (0..400).map(|k| [0, 60, 28, 29][k % 4]).collect();
-    let lent = |calls: &mut Calls| (calls.numbers.next() as usize, calls.numbers.next() as u8, calls.eight());
     let good = [0.5, 0.5, 18.5, 0.5, 18.5, 18.5, 0.5, 18.5];
+    let pitch = calls.pitch();
     for (number, quad) in bad_quads() {
-        let outputs = lent(calls);
-        calls.refuse("try_decode_quad_in", number, outputs, |(id, turn, corners)| {
-            c::try_decode_quad_in(&plane, 20, 20, 3, &quad, id, turn, corners)
+        let all = lent(calls, &grey, pitch);
+        calls.refuse("try_decode_quad_in", number, all, |(plane, id, turn, corners)| {
+            c::try_decode_quad_in(plane, 20, 20, pitch, 3, &quad, id, turn, corners)
         });
-        let outputs = lent(calls);
-        calls.refuse("try_decode_quad", number, outputs, |(id, turn, corners)| {
-            c::try_decode_quad(&plane, 20, 20, 4, 2, 1, &[0x231B], &quad, id, turn, corners)
-        });
-    }
-    for (number, plane) in [(13, &stripes), (12, &unsure)] {
-        let outputs = lent(calls);
-        calls.refuse("try_decode_quad_in", number, outputs, |(id, turn, corners)| {
-            c::try_decode_quad_in(plane, 20, 20, 3, &good, id, turn, corners)
+        let all = lent(calls, &grey, pitch);
+        calls.refuse("try_decode_quad", number, all, |(plane, id, turn, corners)| {
+            c::try_decode_quad(plane, 20, 20, pitch, 4, 2, 1, &[0x231B], &quad, id, turn, corners)
         });
     }
-    for (width, height) in [(0, 0), (0, 20), (20, 0), (4_097, 1), (20, 21), (usize::MAX, 2), (1 << 63, 2), (1 << 32, 1 << 32)] {
-        let outputs = lent(calls);
-        calls.refuse("try_decode_quad_in", 1, outputs, |(id, turn, corners)| {
-            c::try_decode_quad_in(&plane, width, height, 3, &good, id, turn, corners)
+    for (number, pixels) in [(13, &stripes), (12, &unsure)] {
+        let all = lent(calls, pixels, pitch);
+        calls.refuse("try_decode_quad_in", number, all, |(plane, id, turn, corners)| {
+            c::try_decode_quad_in(plane, 20, 20, pitch, 3, &good, id, turn, corners)
         });
     }
     for family in [5, 255] {
-        let outputs = lent(calls);
-        calls.refuse("try_decode_quad_in", 6, outputs, |(id, turn, corners)| {
-            c::try_decode_quad_in(&plane, 20, 20, family, &good, id, turn, corners)
+        let all = lent(calls, &grey, pitch);
+        calls.refuse("try_decode_quad_in", 6, all, |(plane, id, turn, corners)| {
+            c::try_decode_quad_in(plane, 20, 20, pitch, family, &good, id, turn, corners)
         });
     }
     for (edge, border, distance) in [(0, 2, 1), (9, 2, 1), (4, 0, 1), (4, 5, 1), (4, 2, 0), (4, 2, 65), (3, 2, 1)] {
-        let outputs = lent(calls);
-        calls.refuse("try_decode_quad", 6, outputs, |(id, turn, corners)| {
-            c::try_decode_quad(&plane, 20, 20, edge, border, distance, &[0x231B], &good, id, turn, corners)
+        let all = lent(calls, &grey, pitch);
+        calls.refuse("try_decode_quad", 6, all, |(plane, id, turn, corners)| {
+            c::try_decode_quad(plane, 20, 20, pitch, edge, border, distance, &[0x231B], &good, id, turn, corners)
+        });
+    }
+}
+
+/// Sides and pitches that do not go with the length of a plane of 20 × 20 pixels and this pitch.
+fn bad_frames(pitch: usize) -> Vec<[usize; 3]> {
+    let large = [[usize::MAX, 2, pitch], [20, 1 << 63, 1 << 63], [20, (1 << 51) + 1, 8_192], [20, 21, usize::MAX], [1 << 32; 3]];
+    let wrong = [[0, 0, 0], [0, 20, pitch], [20, 0, pitch], [4_097, 1, 8_192], [20, 4_097, pitch], [20, 20, 19], [20, 20, 8_193]];
+    let other = [[20, 21, pitch], [21, 20, pitch.max(21)], [19, 20, pitch], [20, 19, pitch], [20, 20, pitch + 1], [20, 20, 0]];
+    [&large[..], &wrong, &other].concat()
+}
+
+/// Refusal 1 of all six functions that take an 8-bit plane.
+fn frames(calls: &mut Calls) {
+    let (pitch, quads) = (calls.pitch(), calls.floats(16));
+    let quad = &quads[..8].try_into().unwrap();
+    for [w, h, p] in bad_frames(pitch) {
+        let one = lent(calls, &[90; 400], pitch);
+        let list = (one.0.clone(), calls.longs(6), calls.floats(16));
+        let painting = (one.0.clone(), calls.eight());
+        calls.refuse("try_decode_quad_in", 1, one.clone(), |(plane, id, turn, corners)| {
+            c::try_decode_quad_in(plane, w, h, p, 3, quad, id, turn, corners)
+        });
+        calls.refuse("try_decode_quad", 1, one, |(plane, id, turn, corners)| {
+            c::try_decode_quad(plane, w, h, p, 4, 2, 1, &[0x231B], quad, id, turn, corners)
+        });
+        calls.refuse("try_decode_quads_in", 1, list.clone(), |(plane, rows, corners)| {
+            c::try_decode_quads_in(plane, w, h, p, 3, &quads, rows, corners)
+        });
+        calls.refuse("try_decode_quads", 1, list, |(plane, rows, corners)| {
+            c::try_decode_quads(plane, w, h, p, 4, 2, 1, &[0x231B], &quads, rows, corners)
+        });
+        calls.refuse("paint_tag_in", 1, painting.clone(), |(plane, quad)| {
+            c::paint_tag_in(plane, w, h, p, 0, 0x231B, 1, 1, 2, 0, 200, 50, quad)
+        });
+        calls.refuse("paint_tag", 1, painting, |(plane, quad)| {
+            c::paint_tag(plane, w, h, p, 4, 2, 0x231B, 1, 1, 2, 0, 200, 50, quad)
         });
     }
 }
 
 fn lists(calls: &mut Calls) {
-    let plane = [90u8; 400];
-    let list = |calls: &mut Calls, number: u32, sizes: [usize; 3], width: usize, family: u8| {
+    let pitch = calls.pitch();
+    let list = |calls: &mut Calls, number: u32, sizes: [usize; 3], family: u8| {
         let quads = calls.floats(sizes[0]);
-        let outputs = (calls.longs(sizes[1]), calls.floats(sizes[2]));
-        calls.refuse("try_decode_quads_in", number, outputs.clone(), |(rows, corners)| {
-            c::try_decode_quads_in(&plane, width, 20, family, &quads, rows, corners)
+        let all = (calls.padded(&[90; 400], pitch), calls.longs(sizes[1]), calls.floats(sizes[2]));
+        calls.refuse("try_decode_quads_in", number, all.clone(), |(plane, rows, corners)| {
+            c::try_decode_quads_in(plane, 20, 20, pitch, family, &quads, rows, corners)
         });
         let edge = if family < 5 { 4 } else { 9 };
-        calls.refuse("try_decode_quads", number, outputs, |(rows, corners)| {
-            c::try_decode_quads(&plane, width, 20, edge, 2, 1, &[0x231B], &quads, rows, corners)
+        calls.refuse("try_decode_quads", number, all, |(plane, rows, corners)| {
+            c::try_decode_quads(plane, 20, 20, pitch, edge, 2, 1, &[0x231B], &quads, rows, corners)
         });
     };
-    list(calls, 1, [16, 6, 16], 21, 0);
-    list(calls, 6, [16, 6, 16], 20, 5);
+    list(calls, 6, [16, 6, 16], 5);
     for sizes in [[7, 6, 16], [9, 6, 16], [16, 5, 16], [16, 6, 15], [8_200, 3_075, 8_200], [1, 0, 0], [8, 0, 8], [8, 3, 0]] {
-        list(calls, 16, sizes, 20, 0);
+        list(calls, 16, sizes, 0);
     }
 }
 
 fn painter(calls: &mut Calls) {
     // T16H5 in a plane of 20 × 20 pixels: 8 modules a side.
-    let fits = (20, 20, 0x231B, 1, 1, 2, 0, 200, 50);
-    let (w, h, word, x, y, cell, turn, light, dark) = fits;
+    let fits = (0x231B, 1, 1, 2, 0, 200, 50);
+    let (word, x, y, cell, turn, light, dark) = fits;
     let prints = [
-        (1, 21, h, word, x, y, cell, turn, light, dark),
-        (1, 0, h, word, x, y, cell, turn, light, dark),
-        (1, 4_097, h, word, x, y, cell, turn, light, dark),
-        (14, w, h, 0x1_0000, x, y, cell, turn, light, dark),
-        (14, w, h, word, x, y, 0, turn, light, dark),
-        (14, w, h, word, x, y, 65, turn, light, dark),
-        (14, w, h, word, x, y, usize::MAX, turn, light, dark),
-        (14, w, h, word, x, y, cell, 4, light, dark),
-        (14, w, h, word, x, y, cell, turn, 99, dark),
-        (14, w, h, word, x, y, cell, turn, 10, 250),
-        (14, w, h, word, 4, y, cell, turn, light, dark),
-        (14, w, h, word, x, 4, cell, turn, light, dark),
-        (14, w, h, word, usize::MAX, y, cell, turn, light, dark),
-        (14, w, h, word, x, usize::MAX - 15, cell, turn, light, dark),
+        (0x1_0000, x, y, cell, turn, light, dark),
+        (word, x, y, 0, turn, light, dark),
+        (word, x, y, 65, turn, light, dark),
+        (word, x, y, usize::MAX, turn, light, dark),
+        (word, x, y, cell, 4, light, dark),
+        (word, x, y, cell, turn, 99, dark),
+        (word, x, y, cell, turn, 10, 250),
+        (word, 4, y, cell, turn, light, dark),
+        (word, x, 4, cell, turn, light, dark),
+        (word, usize::MAX, y, cell, turn, light, dark),
+        (word, x, usize::MAX - 15, cell, turn, light, dark),
     ];
-    for (number, w, h, word, x, y, cell, turn, light, dark) in prints {
-        let lent = (calls.bytes(400), calls.eight());
-        calls.refuse("paint_tag", number, lent.clone(), |(plane, quad)| {
-            c::paint_tag(plane, w, h, 4, 2, word, x, y, cell, turn, light, dark, quad)
+    let pitch = calls.pitch();
+    let lent = |calls: &mut Calls| (calls.bytes(pitch * 19 + 20), calls.eight());
+    for (word, x, y, cell, turn, light, dark) in prints {
+        let all = lent(calls);
+        calls.refuse("paint_tag", 14, all.clone(), |(plane, quad)| {
+            c::paint_tag(plane, 20, 20, pitch, 4, 2, word, x, y, cell, turn, light, dark, quad)
         });
-        calls.refuse("paint_tag_in", number, lent, |(plane, quad)| {
-            c::paint_tag_in(plane, w, h, 0, word, x, y, cell, turn, light, dark, quad)
+        calls.refuse("paint_tag_in", 14, all, |(plane, quad)| {
+            c::paint_tag_in(plane, 20, 20, pitch, 0, word, x, y, cell, turn, light, dark, quad)
         });
     }
     for (edge, border) in [(0, 2), (9, 2), (4, 0), (4, 5)] {
-        let lent = (calls.bytes(400), calls.eight());
-        calls.refuse("paint_tag", 6, lent, |(plane, quad)| {
-            c::paint_tag(plane, w, h, edge, border, word, x, y, cell, turn, light, dark, quad)
+        let all = lent(calls);
+        calls.refuse("paint_tag", 6, all, |(plane, quad)| {
+            c::paint_tag(plane, 20, 20, pitch, edge, border, word, x, y, cell, turn, light, dark, quad)
         });
     }
-    let lent = (calls.bytes(400), calls.eight());
-    calls.refuse("paint_tag_in", 6, lent, |(plane, quad)| {
-        c::paint_tag_in(plane, w, h, 5, word, x, y, cell, turn, light, dark, quad)
+    let all = lent(calls);
+    calls.refuse("paint_tag_in", 6, all, |(plane, quad)| {
+        c::paint_tag_in(plane, 20, 20, pitch, 5, word, x, y, cell, turn, light, dark, quad)
     });
 }
 
@@ -353,14 +400,15 @@ fn centers(calls: &mut Calls) {
 
 /// Longer outputs than a list or the clusters need: what lies beyond stays, and a refused row is zero but for its number.
 fn beyond_the_answer(calls: &mut Calls) -> u64 {
-    let plane = [90u8; 400];
     let bad = bad_quads();
     let mut accepted = 0;
     for extra in 0..30 {
+        let pitch = calls.pitch();
+        let plane = calls.padded(&[90; 400], pitch);
         let quads: Vec<f32> = bad.iter().flat_map(|(_, quad)| *quad).collect();
         let (rows, corners) = (calls.longs(3 * bad.len() + extra), calls.floats(8 * bad.len() + extra));
         let (mut rows_after, mut corners_after) = (rows.clone(), corners.clone());
-        assert_eq!(c::try_decode_quads_in(&plane, 20, 20, 3, &quads, &mut rows_after, &mut corners_after), 0);
+        assert_eq!(c::try_decode_quads_in(&plane, 20, 20, pitch, 3, &quads, &mut rows_after, &mut corners_after), 0);
         let expected: Vec<u64> = bad.iter().flat_map(|&(number, _)| [number as u64, 0, 0]).collect();
         assert_eq!(rows_after[..expected.len()], expected);
         assert_eq!(rows_after[expected.len()..], rows[expected.len()..]);
@@ -379,4 +427,18 @@ fn beyond_the_answer(calls: &mut Calls) -> u64 {
         accepted += 2;
     }
     accepted
+}
+
+/// Paintings of planes with padded lines: each byte of the filler stays, and each pixel is painted.
+fn filler(calls: &mut Calls) -> u64 {
+    let pitches = (20..220).chain([8_191, 8_192]);
+    for pitch in pitches.clone() {
+        let (plane, mut quad) = (calls.bytes(pitch * 19 + 20), calls.eight());
+        let mut painted = plane.clone();
+        assert_eq!(c::paint_tag_in(&mut painted, 20, 20, pitch, 0, 0x231B, 1, 1, 2, 0, 200, 50, &mut quad), 0);
+        let (before, after) = (plane.chunks(pitch), painted.chunks(pitch));
+        assert!(before.zip(after).all(|(before, after)| before[20..] == after[20..]), "filler changed, pitch {pitch}");
+        assert!(painted.chunks(pitch).all(|line| line[..20].iter().all(|level| [50, 200].contains(level))));
+    }
+    pitches.count() as u64
 }

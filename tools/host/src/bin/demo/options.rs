@@ -20,8 +20,8 @@ pub struct Options {
 }
 
 impl Options {
-    /// The options, or what is wrong with them: a word that is not known, one too many, or a number that is missing or not allowed.
-    /// Where no folder is named, it is the one in DEMO_FOLDER, which `./demo` sets, else target/demo.
+    /// The options, or what is wrong with them: a word that is not known, one too many, or a number that is missing, too small or
+    /// too large. Where no folder is named, it is the one in DEMO_FOLDER, which `./demo` sets, else target/demo.
     pub fn read(mut words: impl Iterator<Item = OsString>) -> Result<Options, String> {
         let (mut folder, mut noise, mut smear, mut pitch) = (None, None, None, None);
         while let Some(word) = words.next() {

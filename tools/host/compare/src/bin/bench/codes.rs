@@ -1,12 +1,13 @@
-//! Words, levels, quads, the likeness check, the painter.
+//! Words, levels, quads, padded lines, the likeness check, the painter.
 
 use crate::measure::{Times, alone, both, timed};
 use muosleap::detector::{bit_code, rotate_bits};
-use muosleap::{Family, Print, Quad, Refusal, Shape, Table, c};
+use muosleap::{Family, Picture, Print, Quad, Refusal, Shape, Table, c};
 use muosleap_compare::{Numbers, SEED, pictures};
 use oracle::image::GrayImage;
 use oracle::original::detector as original;
 use std::hint::black_box;
+use std::time::Duration;
 
 const FAMILY: Family = Family::T36H11;
 
@@ -71,7 +72,6 @@ fn places(quad: &Quad) -> Vec<(f32, f32)> {
 
 /// A picture with 144 tags, as both sides take it.
 struct Sheet {
-    shape: Shape,
     image: GrayImage,
     quads: Vec<Quad>,
     places: Vec<Vec<(f32, f32)>>,
@@ -80,10 +80,14 @@ struct Sheet {
 impl Sheet {
     fn new() -> Sheet {
         let shape = Shape { width: 1920, height: 1080 };
-        let picture = pictures::sheet(shape, 6, &mut Numbers::from(SEED + 6_200));
-        let image = GrayImage::from_raw(shape.width as u32, shape.height as u32, picture.pixels).unwrap();
-        let quads = picture.quads[..144].to_vec();
-        Sheet { shape, image, places: quads.iter().map(places).collect(), quads }
+        let (picture, quads) = pictures::sheet(shape, 6, &mut Numbers::from(SEED + 6_200));
+        let image = GrayImage::from_raw(shape.width as u32, shape.height as u32, picture.bytes).unwrap();
+        let quads = quads[..144].to_vec();
+        Sheet { image, places: quads.iter().map(places).collect(), quads }
+    }
+
+    fn picture(&self) -> Picture<&[u8]> {
+        Picture::packed(self.image.as_raw(), self.image.width() as usize, self.image.height() as usize)
     }
 
     /// What the original does after it has the places: bits, then the search.
@@ -93,8 +97,18 @@ impl Sheet {
         original::best_tag(bits, table.hamming_distance, black_box(table.codes), table.edge).map(|(id, _)| id)
     }
 
-    fn ours(&self, k: usize) -> Option<usize> {
-        FAMILY.try_decode_quad(self.image.as_raw(), self.shape, &self.quads[k]).ok().map(|tag| tag.id)
+    fn read(&self, picture: &Picture<&[u8]>, k: usize) -> Option<usize> {
+        FAMILY.try_decode_quad(picture, &self.quads[k]).ok().map(|tag| tag.id)
+    }
+
+    /// Reads all quads as a list, again and again into the same outputs.
+    fn lister<'a>(&self, Picture { bytes, width, height, stride }: Picture<&'a [u8]>) -> impl FnMut() -> u32 + use<'a> {
+        let quads: Vec<f32> = self.quads.iter().flat_map(|&quad| <[f32; 8]>::from(quad)).collect();
+        let (mut rows, mut corners) = (vec![1; 3 * 144], vec![1.0; 8 * 144]);
+        let mut read =
+            move || c::try_decode_quads_in(bytes, width, height, stride, FAMILY.number(), &quads, &mut rows, &mut corners);
+        assert_eq!(read(), 0);
+        read
     }
 
     fn levels(&self) -> Times {
@@ -111,17 +125,15 @@ impl Sheet {
     }
 
     fn one_by_one(&self) -> Times {
-        assert!((0..144).all(|k| self.ours(k) == Some(k) && self.theirs(k) == Some(k)));
+        let picture = self.picture();
+        let ours = |k: usize| self.read(&picture, k);
+        assert!((0..144).all(|k| ours(k) == Some(k) && self.theirs(k) == Some(k)));
         let sum = |read: &dyn Fn(usize) -> Option<usize>| (0..144).filter_map(read).sum::<usize>();
-        both(144, || timed(|| sum(&|k| self.theirs(k))), || timed(|| sum(&|k| self.ours(k))))
+        both(144, || timed(|| sum(&|k| self.theirs(k))), || timed(|| sum(&ours)))
     }
 
     fn list(&self) -> Times {
-        let quads: Vec<f32> = self.quads.iter().flat_map(|&quad| <[f32; 8]>::from(quad)).collect();
-        let (mut rows, mut corners) = (vec![1; 3 * 144], vec![1.0; 8 * 144]);
-        let (pixels, Shape { width, height }) = (self.image.as_raw(), self.shape);
-        let mut ours = || c::try_decode_quads_in(pixels, width, height, FAMILY.number(), &quads, &mut rows, &mut corners);
-        assert_eq!(ours(), 0);
+        let mut ours = self.lister(self.picture());
         both(1, || timed(|| (0..144).filter_map(|k| self.theirs(k)).sum::<usize>()), || timed(&mut ours))
     }
 }
@@ -136,22 +148,50 @@ pub fn quads() -> Vec<(String, Times)> {
     ]
 }
 
-/// What the original has not.
-pub fn own() -> Vec<(String, Times)> {
+/// The likeness check.
+pub fn likeness() -> Vec<(String, Times)> {
     let mut numbers = Numbers::from(SEED + 6_300);
     let codes: Vec<u64> = (0..1_024).map(|_| numbers.next()).collect();
     let large = Table { edge: 8, border: 1, hamming_distance: 3, codes: &codes };
     assert_eq!((FAMILY.table().check_likeness(), large.check_likeness()), (Ok(()), Ok(())));
-    let paint = |width: usize, height: usize| {
-        let (shape, word) = (Shape { width, height }, FAMILY.codes()[0]);
-        let (mut plane, print) = (vec![1; shape.len()], Print { x: 100, y: 100, cell: 20, turn: 1, light: 200, dark: 30 });
-        let name = format!("`paint_tag_in`, {width} × {height}, cell 20");
-        (name, alone(1, || timed(|| FAMILY.paint_tag(&mut plane, shape, word, &print))))
-    };
     vec![
         ("`check_likeness`, T36H11, 587 codes".into(), alone(1, || timed(|| FAMILY.table().check_likeness()))),
         ("`check_likeness`, 1,024 codes of edge 8".into(), alone(1, || timed(|| large.check_likeness()))),
-        paint(640, 480),
-        paint(1920, 1080),
+    ]
+}
+
+const PRINT: Print = Print { x: 100, y: 100, cell: 20, turn: 1, light: 200, dark: 30 };
+
+/// Paints a tag, again and again on one plane.
+fn painter(width: usize, height: usize, stride: usize) -> impl FnMut() -> Duration {
+    let mut picture = Picture { bytes: vec![1; stride * (height - 1) + width], width, height, stride };
+    move || timed(|| FAMILY.paint_tag(&mut picture, FAMILY.codes()[0], &PRINT).unwrap())
+}
+
+/// The painter against a plain fill of the plane.
+pub fn painting() -> Vec<(String, Times)> {
+    let paint = |(width, height): (usize, usize)| {
+        let mut plane = vec![1; width * height];
+        let fill = || timed(|| black_box(&mut plane[..]).fill(black_box(PRINT.light)));
+        (format!("`paint_tag_in`, {width} × {height}, cell 20"), both(1, fill, painter(width, height, width)))
+    };
+    [(640, 480), (1920, 1080)].map(paint).into()
+}
+
+/// Padded lines against lines without filler.
+pub fn padded() -> Vec<(String, Times)> {
+    let sheet = Sheet::new();
+    let packed = sheet.picture();
+    let Picture { width, height, .. } = packed;
+    let padded = pictures::padded(&packed, 2_048, &mut Numbers::from(SEED + 6_400));
+    let padded = Picture { bytes: &padded.bytes[..], width, height, stride: padded.stride };
+    let sum = |picture: &Picture<&[u8]>| (0..144).filter_map(|k| sheet.read(picture, k)).sum::<usize>();
+    assert!((0..144).all(|k| sheet.read(&packed, k) == Some(k) && sheet.read(&padded, k) == Some(k)));
+    let (mut list, mut padded_list) = (sheet.lister(packed), sheet.lister(padded));
+    let (paint, paint_padded) = (painter(width, height, width), painter(width, height, 2_048));
+    vec![
+        ("`try_decode_quad_in`, one quad".into(), both(144, || timed(|| sum(&packed)), || timed(|| sum(&padded)))),
+        ("`try_decode_quads_in`, a list of 144 quads".into(), both(1, || timed(&mut list), || timed(&mut padded_list))),
+        ("`paint_tag_in`, cell 20".into(), both(1, paint, paint_padded)),
     ]
 }

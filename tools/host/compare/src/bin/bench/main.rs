@@ -17,11 +17,15 @@ fn main() {
 #[cfg(original)]
 fn main() {
     println!("# Benchmarks\n\n{HEAD}\n\nMeasured on: {}.", report::machine());
-    report::table("Words", WORDS, &codes::words());
-    report::table("Levels and quads", QUADS, &codes::quads());
-    report::table("What the original has not", OWN, &codes::own());
+    let sides = ["original", "Muosleap"];
+    report::table("Words", WORDS, sides, &codes::words());
+    report::table("Levels and quads", QUADS, sides, &codes::quads());
+    report::table("Padded lines", PADDED, ["without filler", "pitch 2,048"], &codes::padded());
+    report::table("Likeness check", LIKENESS, sides, &codes::likeness());
+    report::table("Painting", PAINTING, ["plain fill", "Muosleap"], &codes::painting());
     for (width, height) in [(640, 480), (1920, 1080)] {
-        report::table(&format!("Planes of {width} × {height}"), PLANES, &planes::Planes::new(width, height).entries());
+        let rows = planes::Planes::new(width, height).entries();
+        report::table(&format!("Planes of {width} × {height}"), PLANES, sides, &rows);
     }
     let sizes = [(640, 480), (1280, 960), (1920, 1080), (2592, 1944), (4096, 3072), (4096, 4096)];
     let rows = sizes.map(|(width, height)| ((width, height), planes::Planes::new(width, height).chain()));
@@ -43,7 +47,15 @@ const QUADS: &str = "Tags of T36H11 on a picture of 1920 × 1080 with noise, at 
 Muosleap's readings include the corner tests and the places. In the row of `bit_code` the original also fetches the levels from the picture.";
 
 #[cfg(original)]
-const OWN: &str = "Likeness check and painter are new. The tables pass the check, which is its longest way.";
+const PADDED: &str = "A plane of 1920 × 1080 whose lines lie 2,048 bytes apart, with noise as filler, against the same plane without filler: \
+the quads and the print of the other tables, our side alone. The last column is below 1 where filler costs time.";
+
+#[cfg(original)]
+const LIKENESS: &str = "The original has no such check. The tables pass it, which is its longest way.";
+
+#[cfg(original)]
+const PAINTING: &str = "The original has no painter. The left column is the least that one has to do: a plane of the same size filled with \
+light in plain Rust, `plane.fill(light)`. The last column is the part of the painter's time that this takes.";
 
 #[cfg(original)]
 const PLANES: &str = "A sheet of tags with noise. Muosleap's buffers are lent and were written before; the original makes its planes anew in \

@@ -12,7 +12,8 @@ const ROUND: Duration = Duration::from_millis(20);
 /// Seconds for one piece of work: the median of the rounds.
 #[derive(Clone, Copy)]
 pub struct Times {
-    pub original: Option<f64>,
+    /// Of what ours is held against, in most tables the original.
+    pub other: Option<f64>,
     pub ours: f64,
 }
 
@@ -26,22 +27,22 @@ pub fn timed<T>(call: impl FnOnce() -> T) -> Duration {
 }
 
 /// Each side does `pieces` pieces of work in a call and answers how long it took; what it prepares is not counted.
-pub fn both(pieces: usize, mut original: impl FnMut() -> Duration, mut ours: impl FnMut() -> Duration) -> Times {
-    let calls = [calls_of(&mut original), calls_of(&mut ours)];
+pub fn both(pieces: usize, mut other: impl FnMut() -> Duration, mut ours: impl FnMut() -> Duration) -> Times {
+    let calls = [calls_of(&mut other), calls_of(&mut ours)];
     let mut seconds = [Vec::new(), Vec::new()];
     for _ in 0..ROUNDS {
-        seconds[0].push(round(calls[0], &mut original));
+        seconds[0].push(round(calls[0], &mut other));
         seconds[1].push(round(calls[1], &mut ours));
     }
-    let [original, ours] = seconds.map(|times| median(times) / pieces as f64);
-    Times { original: Some(original), ours }
+    let [other, ours] = seconds.map(|times| median(times) / pieces as f64);
+    Times { other: Some(other), ours }
 }
 
-/// What the original has not.
+/// What there is nothing to hold against.
 pub fn alone(pieces: usize, mut ours: impl FnMut() -> Duration) -> Times {
     let calls = calls_of(&mut ours);
     let times = (0..ROUNDS).map(|_| round(calls, &mut ours)).collect();
-    Times { original: None, ours: median(times) / pieces as f64 }
+    Times { other: None, ours: median(times) / pieces as f64 }
 }
 
 /// How many calls make a round, after some that warm up.

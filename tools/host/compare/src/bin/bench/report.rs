@@ -2,13 +2,13 @@
 
 use crate::measure::Times;
 
-/// Prints the head of a table and its rows.
-pub fn table(title: &str, note: &str, rows: &[(String, Times)]) {
-    println!("\n## {title}\n\n{note}\n\n| | original | Muosleap | times as fast |\n|---|---:|---:|---:|");
+/// Prints the head of a table and its rows: the time of what ours is held against, ours, and the first divided by the second.
+pub fn table(title: &str, note: &str, [other, ours]: [&str; 2], rows: &[(String, Times)]) {
+    println!("\n## {title}\n\n{note}\n\n| | {other} | {ours} | times as fast |\n|---|---:|---:|---:|");
     for (name, times) in rows {
-        let original = times.original.map_or("none".into(), time);
-        let ratio = times.original.map_or("".into(), |original| format!("{:.2}", original / times.ours));
-        println!("| {name} | {original} | {} | {ratio} |", time(times.ours));
+        let other = times.other.map_or("none".into(), time);
+        let ratio = times.other.map_or("".into(), |other| format!("{:.2}", other / times.ours));
+        println!("| {name} | {other} | {} | {ratio} |", time(times.ours));
     }
 }
 
@@ -20,7 +20,7 @@ pub fn growth(note: &str, rows: &[((usize, usize), Times)]) {
     );
     for ((width, height), times) in rows {
         let pixels = (width * height) as f64;
-        let original = times.original.unwrap_or(f64::NAN);
+        let original = times.other.unwrap_or(f64::NAN);
         let each = |seconds: f64| format!("{:.2}", seconds * 1e9 / pixels);
         println!(
             "| {width} × {height} | {:.1} | {} | {} | {} | {} | {:.2} |",
