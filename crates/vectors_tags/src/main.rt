@@ -1,10 +1,13 @@
 // Replays what the original's turn, search, levels, corner test and quad reader answered, its families, paintings, and the limits of
-// document 01, against the public entries on tags. tools/oracle/README.md says how the files were made.
+// documents 01 and 02, against the public entries on tags; what has a picture again with filler between its lines.
+// tools/oracle/README.md says how the files were made.
 mod bit_codes;
+mod padded;
 mod paintings;
 mod quads;
 mod words;
 
+use libc::STDOUT_FILENO;
 use vectors::Tally;
 use vectors::u8_at;
 
@@ -17,19 +20,19 @@ const QUADS: u8 = 2;
 
 const PAINTER: u8 = 3;
 
-// Whether the entry answers what a frame says. The frame's first byte is its kind.
-fn alike(flow: u8, frame: &[u8], lent: &[u8]) -> bool {
+// Whether the entry answers what a frame says. The frame's first byte is its kind. The layout is that of pictures.
+fn alike(flow: u8, frame: &[u8], lent: &[u8], layout: u8) -> bool {
     let kind = u8_at(frame, 0);
     match flow {
         WORDS => words::alike(kind, frame, lent),
         LEVELS => bit_codes::alike(kind, frame),
-        QUADS => quads::alike(kind, frame, lent),
-        _ => paintings::alike(kind, frame),
+        QUADS => quads::alike(kind, frame, lent, layout),
+        _ => paintings::alike(kind, frame, layout),
     }
 }
 
 // A frame of kind 0 lends a table or a picture to those after it.
-fn replay(flow: u8, s: &[u8]) -> Tally {
+fn replay(flow: u8, s: &[u8], layout: u8) -> Tally {
     let mut tally = Tally::new();
     let mut lent = s.len();
     let mut at = 0;
@@ -38,17 +41,21 @@ fn replay(flow: u8, s: &[u8]) -> Tally {
         if u8_at(frame, 0) == 0 {
             lent = at;
         } else {
-            tally = tally.count(alike(flow, frame, vectors::frame_at(s, lent)), at);
+            tally = tally.count(alike(flow, frame, vectors::frame_at(s, lent), layout), at);
         }
         at = vectors::after(s, at);
     }
     tally
 }
 
-fn replay_file(flow: u8, name: &[u8]) {
+fn replay_at(layout: u8, flow: u8, name: &[u8]) {
     let mut buffer = io::large_buffer();
     let n = vectors::load(name, &mut buffer);
-    vectors::report(name, replay(flow, &buffer[..n]));
+    vectors::report(name, replay(flow, &buffer[..n], layout));
+}
+
+fn replay_file(flow: u8, name: &[u8]) {
+    replay_at(padded::PACKED, flow, name);
 }
 
 fn replay_words() {
@@ -73,10 +80,22 @@ fn replay_quads() {
     replay_file(QUADS, b"refusals");
 }
 
+// The files of pictures at a layout with filler, under a heading.
+fn replay_padded(layout: u8, heading: &[u8]) {
+    io::write_all(STDOUT_FILENO, heading);
+    replay_at(layout, QUADS, b"readings");
+    replay_at(layout, PAINTER, b"paintings");
+    replay_at(layout, PAINTER, b"prints");
+}
+
 fn main() {
     replay_words();
     replay_file(LEVELS, b"bit_code");
     replay_quads();
     replay_file(PAINTER, b"paintings");
     replay_file(PAINTER, b"prints");
+    replay_padded(padded::ZERO, b"with a zero behind each line:\n");
+    replay_padded(padded::FULL, b"with thirteen bytes of 255:\n");
+    replay_padded(padded::NOISE, b"with as much noise as pixels:\n");
+    replay_padded(padded::NEXT_LINE, b"with seven pixels of the next line:\n");
 }

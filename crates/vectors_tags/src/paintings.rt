@@ -1,4 +1,6 @@
-// Frames of a painting, and of a painted tag that is read at its four starts.
+// Frames of a painting, and of a painted tag that is read at its four starts, on planes of some layout.
+use crate::padded;
+use crate::padded::Seen;
 use crate::quads::reading_alike;
 use muosleap::painting::Painted;
 use muosleap::painting::paint_tag;
@@ -16,17 +18,6 @@ use vectors::rest;
 use vectors::u8_at;
 use vectors::u32_at;
 use vectors::u64_at;
-
-// The digest of a plane.
-fn digest_of(plane: &[u8]) -> u64 {
-    let mut digest = vectors::DIGEST;
-    let mut i = 0;
-    while i < plane.len() {
-        digest = vectors::digest_u8(digest, u8_at(plane, i) as u64);
-        i += 1;
-    }
-    digest
-}
 
 // Where a tag is printed, and how, in numbers of eight bytes and three of one.
 fn print_at(s: &[u8]) -> Print {
@@ -49,21 +40,51 @@ fn painted_alike(s: &[u8], painted: Painted) -> bool {
     }
 }
 
-fn painted(frame: &[u8], plane: &mut [u8]) -> Painted {
+fn painted(record: &[u8], frame: Frame, plane: &mut [u8]) -> Painted {
+    padded::fill(plane);
     paint_tag(
         plane,
-        refusals::packed_frame(u64_at(frame, 1) as usize, u64_at(frame, 9) as usize),
-        u8_at(frame, 21),
-        u8_at(frame, 22),
-        u64_at(frame, 23),
-        print_at(rest(frame, 31)),
+        frame,
+        u8_at(record, 29),
+        u8_at(record, 30),
+        u64_at(record, 31),
+        print_at(rest(record, 39)),
     )
 }
 
-// The answer, and a digest of the plane afterwards.
-fn plane_alike(frame: &[u8], plane: &mut [u8]) -> bool {
-    let answer = painted(frame, plane);
-    painted_alike(rest(frame, 58), answer) & (digest_of(plane) == u64_at(frame, 59))
+// A refused call paints no pixel.
+fn looked(plane: &[u8], frame: Frame, answer: Painted) -> Seen {
+    match answer {
+        Painted::Tag(_) => padded::look(plane, frame.width, frame.pitch),
+        Painted::Refused(_) => padded::look(plane, 0, 1),
+    }
+}
+
+// The answer, the digest of the pixels afterwards, and every other byte.
+fn plane_alike(record: &[u8], frame: Frame, plane: &mut [u8]) -> bool {
+    let answer = painted(record, frame, plane);
+    let seen = looked(plane, frame, answer);
+    painted_alike(rest(record, 66), answer) & (seen.digest == u64_at(record, 67)) & seen.kept
+}
+
+// Whether a plane is packed, and has room in the buffer at a layout.
+fn is_laid_out(own: Frame, length: usize, frame: Frame) -> bool {
+    (own.pitch == own.width)
+        & (length == product(own.width, own.height, 65536))
+        & (padded::bytes_of(frame) < 65536)
+}
+
+// A packed plane is painted at the layout. Any other, and one that has no room so, is painted as it is.
+fn painting_alike(record: &[u8], layout: u8) -> bool {
+    let mut plane = io::large_buffer();
+    let own = padded::frame_at(rest(record, 1));
+    let length = least(u32_at(record, 25) as usize, 65536);
+    let frame = padded::frame_of(layout, own.width, own.height);
+    if is_laid_out(own, length, frame) {
+        let n = padded::bytes_of(frame);
+        return plane_alike(record, frame, &mut plane[0..n]);
+    }
+    plane_alike(record, own, &mut plane[0..length])
 }
 
 // The four starts, with 36 bytes each.
@@ -86,22 +107,34 @@ fn small_print_at(s: &[u8]) -> Print {
     }
 }
 
-fn print_alike(record: &[u8], plane: &mut [u8]) -> bool {
-    let frame = refusals::packed_frame(u8_at(record, 1) as usize, u8_at(record, 2) as usize);
-    let number = u8_at(record, 3);
-    let print = small_print_at(rest(record, 12));
-    match paint_tag_in(plane, frame, number, u64_at(record, 4), print) {
-        Painted::Tag(quad) => starts_alike(rest(record, 18), number, plane, frame, quad),
+fn painted_in(record: &[u8], frame: Frame, plane: &mut [u8]) -> Painted {
+    padded::fill(plane);
+    paint_tag_in(
+        plane,
+        frame,
+        u8_at(record, 3),
+        u64_at(record, 4),
+        small_print_at(rest(record, 12)),
+    )
+}
+
+fn print_alike(record: &[u8], frame: Frame, plane: &mut [u8]) -> bool {
+    match painted_in(record, frame, plane) {
+        Painted::Tag(quad) => starts_alike(rest(record, 18), u8_at(record, 3), plane, frame, quad),
         Painted::Refused(_) => false,
     }
 }
 
-pub fn alike(kind: u8, frame: &[u8]) -> bool {
+fn tag_alike(record: &[u8], layout: u8) -> bool {
     let mut plane = io::large_buffer();
+    let frame = padded::frame_of(layout, u8_at(record, 1) as usize, u8_at(record, 2) as usize);
+    let n = padded::bytes_of(frame);
+    print_alike(record, frame, &mut plane[0..n])
+}
+
+pub fn alike(kind: u8, record: &[u8], layout: u8) -> bool {
     if kind == 1 {
-        let n = least(u32_at(frame, 17) as usize, 65536);
-        return plane_alike(frame, &mut plane[0..n]);
+        return painting_alike(record, layout);
     }
-    let n = product(u8_at(frame, 1) as usize, u8_at(frame, 2) as usize, 4096);
-    print_alike(frame, &mut plane[0..n])
+    tag_alike(record, layout)
 }

@@ -1,4 +1,5 @@
-// Frames of one quad, of a list of quads, and of the corner test. The picture is the frame that was lent.
+// Frames of one quad, of a list of quads, and of the corner test. The picture is the frame that was lent, at some layout.
+use crate::padded;
 use listing::ROW_SIZE;
 use muosleap::detector::try_decode_quad;
 use muosleap::detector::try_decode_quad_in;
@@ -33,14 +34,10 @@ pub fn reading_alike(plane: &[u8], frame: Frame, number: u8, quad: Quad, s: &[u8
     )
 }
 
-fn picture(lent: &[u8]) -> Frame {
-    refusals::packed_frame(u16_at(lent, 1) as usize, u16_at(lent, 3) as usize)
-}
-
-fn quad_alike(frame: &[u8], lent: &[u8]) -> bool {
+fn quad_alike(frame: &[u8], plane: &[u8], picture: Frame) -> bool {
     reading_alike(
-        rest(lent, 5),
-        picture(lent),
+        plane,
+        picture,
         u8_at(frame, 1),
         quad_at(rest(frame, 2)),
         rest(frame, 34),
@@ -73,7 +70,8 @@ fn rows_alike(s: &[u8], n: usize, rows: &[u64], corners: &[f32]) -> bool {
 // The outputs that are lent to the reader are two numbers longer than they need to be.
 fn listed_alike(
     frame: &[u8],
-    lent: &[u8],
+    plane: &[u8],
+    picture: Frame,
     n: usize,
     quads: &[f32],
     rows: &mut [u64],
@@ -82,8 +80,8 @@ fn listed_alike(
     requires { ⌜ (n < 32) × ((length (now rows) ≡ 96) × (length (now corners) ≡ 256)) ⌝ }
 {
     let listed = try_decode_quads_in(
-        rest(lent, 5),
-        picture(lent),
+        plane,
+        picture,
         u8_at(frame, 1),
         quads,
         &mut rows[0..ROW_SIZE * n + 2],
@@ -92,7 +90,7 @@ fn listed_alike(
     (number_of(listed) == 0) & rows_alike(rest(frame, 3 + 32 * n), n, rows, corners)
 }
 
-fn list_alike(frame: &[u8], lent: &[u8]) -> bool {
+fn list_alike(frame: &[u8], plane: &[u8], picture: Frame) -> bool {
     let mut quads = [0.0f32; 248];
     let mut rows = [7u64; 96];
     let mut corners = [7.0f32; 256];
@@ -100,12 +98,36 @@ fn list_alike(frame: &[u8], lent: &[u8]) -> bool {
     floats::fill(floats::EACH, 0, rest(frame, 3), &mut quads);
     listed_alike(
         frame,
-        lent,
+        plane,
+        picture,
         n,
         &quads[0..QUAD_SIZE * n],
         &mut rows,
         &mut corners,
     )
+}
+
+// One quad, or else a list, on the picture that was lent, which is laid out in `plane`.
+fn plane_alike(
+    kind: u8,
+    frame: &[u8],
+    lent: &[u8],
+    layout: u8,
+    picture: Frame,
+    plane: &mut [u8],
+) -> bool {
+    padded::lay_out(rest(lent, 5), layout, picture, plane);
+    if kind == 1 {
+        return quad_alike(frame, plane, picture);
+    }
+    list_alike(frame, plane, picture)
+}
+
+fn picture_alike(kind: u8, frame: &[u8], lent: &[u8], layout: u8) -> bool {
+    let mut plane = io::large_buffer();
+    let picture = padded::frame_of(layout, u16_at(lent, 1) as usize, u16_at(lent, 3) as usize);
+    let n = padded::bytes_of(picture);
+    plane_alike(kind, frame, lent, layout, picture, &mut plane[0..n])
 }
 
 // The number of a list's answer, 0 where it is accepted.
@@ -150,33 +172,33 @@ fn family_at(s: &[u8]) -> Family {
 fn number_alike(frame: &[u8], pixels: &[u8], codes: &[u64]) -> bool {
     let answer = answer_of(try_decode_quad(
         pixels,
-        refusals::packed_frame(u64_at(frame, 1) as usize, u64_at(frame, 9) as usize),
-        family_at(rest(frame, 19)),
+        padded::frame_at(rest(frame, 1)),
+        family_at(rest(frame, 29)),
         codes,
-        quad_at(rest(frame, 33)),
+        quad_at(rest(frame, 43)),
     ));
-    answer.refusal == u8_at(frame, 32) as u64
+    answer.refusal == u8_at(frame, 42) as u64
 }
 
 fn quad_number_alike(frame: &[u8]) -> bool {
-    let pixels = [9u8; 4100];
-    let codes = [u64_at(frame, 22); 1025];
-    let n = length_at(frame, 17, 4100);
-    let count = length_at(frame, 30, 1025);
+    let pixels = [9u8; 8200];
+    let codes = [u64_at(frame, 32); 1025];
+    let n = length_at(frame, 25, 8200);
+    let count = length_at(frame, 40, 1025);
     number_alike(frame, &pixels[0..n], &codes[0..count])
 }
 
-// The same for a list of quads that are one point of a plane of 4 x 4.
-fn listed(edge: u8, pixels: &[u8], quads: &[f32], rows: &mut [u64], corners: &mut [f32]) -> u8 {
+// The same for a list of quads that are one point.
+fn listed(frame: &[u8], pixels: &[u8], quads: &[f32], rows: &mut [u64], corners: &mut [f32]) -> u8 {
     let codes = [0u64; 1];
     let family = Family {
-        edge,
+        edge: u8_at(frame, 29),
         border: 2,
         hamming_distance: 1,
     };
     number_of(try_decode_quads(
         pixels,
-        refusals::packed_frame(4, 4),
+        padded::frame_at(rest(frame, 1)),
         family,
         &codes,
         quads,
@@ -185,29 +207,42 @@ fn listed(edge: u8, pixels: &[u8], quads: &[f32], rows: &mut [u64], corners: &mu
     ))
 }
 
-fn list_number_alike(frame: &[u8]) -> bool {
-    let pixels = [9u8; 16];
-    let quads = [1.0f32; 8200];
-    let mut rows = [0u64; 3076];
-    let mut corners = [0.0f32; 8201];
-    let n = length_at(frame, 2, 16);
-    let a = length_at(frame, 5, 8200);
-    let b = length_at(frame, 7, 3076);
-    let c = length_at(frame, 9, 8201);
-    let number = listed(
-        u8_at(frame, 4),
-        &pixels[0..n],
-        &quads[0..a],
-        &mut rows[0..b],
-        &mut corners[0..c],
-    );
-    number == u8_at(frame, 1)
+// A refused list leaves the outputs as they were.
+fn outputs_alike(
+    frame: &[u8],
+    pixels: &[u8],
+    quads: &[f32],
+    rows: &mut [u64],
+    corners: &mut [f32],
+) -> bool
+    requires { ⌜ (length (now rows) ≡ 3076) × (length (now corners) ≡ 8201) ⌝ }
+{
+    let a = length_at(frame, 32, 3076);
+    let b = length_at(frame, 34, 8201);
+    let number = listed(frame, pixels, quads, &mut rows[0..a], &mut corners[0..b]);
+    let kept = rows_alike(frame, 0, rows, corners);
+    (number == u8_at(frame, 36)) & ((number == 0) | kept)
 }
 
-pub fn alike(kind: u8, frame: &[u8], lent: &[u8]) -> bool {
+fn list_number_alike(frame: &[u8]) -> bool {
+    let pixels = [9u8; 8200];
+    let quads = [1.0f32; 8200];
+    let mut rows = [7u64; 3076];
+    let mut corners = [7.0f32; 8201];
+    let n = length_at(frame, 25, 8200);
+    let count = length_at(frame, 30, 8200);
+    outputs_alike(
+        frame,
+        &pixels[0..n],
+        &quads[0..count],
+        &mut rows,
+        &mut corners,
+    )
+}
+
+pub fn alike(kind: u8, frame: &[u8], lent: &[u8], layout: u8) -> bool {
     match kind {
-        1 => quad_alike(frame, lent),
-        2 => list_alike(frame, lent),
+        1 | 2 => picture_alike(kind, frame, lent, layout),
         3 => corners_alike(frame),
         4 => quad_number_alike(frame),
         5 => list_number_alike(frame),

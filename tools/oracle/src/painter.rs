@@ -1,8 +1,8 @@
 //! Vectors of the painter, which the original does not have, and of reading what it painted, which the original can.
 
-use crate::limits;
+use crate::limits::{self, Plane};
 use crate::out::{Digest, File, Frame, Numbers, SEED};
-use crate::quads::{Picture, Quad, push_quad, started};
+use crate::quads::{Picture, Quad, push_plane, push_quad, started};
 
 pub fn files() -> Vec<File> {
     vec![paintings(), prints()]
@@ -23,9 +23,6 @@ pub struct Print {
     pub light: u8,
     pub dark: u8,
 }
-
-/// What a plane holds before it is painted.
-const BEFORE: u8 = 0;
 
 impl Print {
     fn size(&self) -> u64 {
@@ -66,18 +63,24 @@ impl Print {
         started(&[(left, top), (right, top), (right, bottom), (left, bottom)], self.turn as usize)
     }
 
-    fn frame(&self, length: usize, refusal: u8) -> Frame {
-        let plane = if refusal == 0 { self.painted() } else { vec![BEFORE; length] };
-        let quad = if refusal == 0 { self.quad() } else { [(0.0, 0.0); 4] };
+    /// A plane of this width and height without filler.
+    fn packed(&self) -> Plane {
+        let (width, height) = (self.width, self.height);
+        Plane { width, height, pitch: width, length: (width * height) as u32 }
+    }
+
+    /// The painting of a plane. Pixels are the same at each pitch; those of a refused call are not painted.
+    fn frame(&self, plane: &Plane, refusal: u8) -> Frame {
+        let (pixels, quad) = if refusal == 0 { (self.painted(), self.quad()) } else { (vec![], [(0.0, 0.0); 4]) };
         let mut digest = Digest::new();
-        digest.bytes(&plane);
-        let frame = Frame::new().u8(1).u64(self.width).u64(self.height).u32(length as u32).u8(self.edge).u8(self.border);
+        digest.bytes(&pixels);
+        let frame = push_plane(Frame::new().u8(1), plane).u8(self.edge).u8(self.border);
         let frame = frame.u64(self.word).u64(self.x).u64(self.y).u64(self.cell);
         push_quad(frame.u8(self.turn).u8(self.light).u8(self.dark).u8(refusal).u64(digest.0), &quad)
     }
 }
 
-/// Painted planes of every edge, border and turn, and the limits of document 01.
+/// Painted planes of every edge, border and turn, and the limits of documents 01 and 02.
 fn paintings() -> File {
     let mut file = File::new("vectors_tags/data/paintings");
     let mut numbers = Numbers::from(SEED + 14);
@@ -91,12 +94,12 @@ fn paintings() -> File {
                 let mut print = Print { width: 0, height: 0, edge, border, word, x, y, cell, turn, light, dark };
                 print.width = x + print.size() + 1 + numbers.below(4) as u64;
                 print.height = y + print.size() + 1 + numbers.below(4) as u64;
-                file.push(print.frame((print.width * print.height) as usize, 0));
+                file.push(print.frame(&print.packed(), 0));
             }
         }
     }
     for row in limits::paintings() {
-        file.push(row.print.frame(row.length, row.refusal));
+        file.push(row.print.frame(&row.plane, row.refusal));
     }
     file
 }

@@ -240,17 +240,22 @@ fn dented(file: &mut File, numbers: &mut Numbers) {
     picture.push(file, quads);
 }
 
-/// The limits of document 01 for the quad reader.
+/// An 8-bit plane by limits.txt.
+pub fn push_plane(frame: Frame, plane: &limits::Plane) -> Frame {
+    frame.u64(plane.width).u64(plane.height).u64(plane.pitch).u32(plane.length)
+}
+
+/// The limits of documents 01 and 02 for the quad reader and the list reader.
 fn refusals() -> File {
     let mut file = File::new("vectors_tags/data/refusals");
     for row in limits::quads() {
-        let frame = Frame::new().u8(4).u64(row.width).u64(row.height).u16(row.length);
+        let frame = push_plane(Frame::new().u8(4), &row.plane);
         let frame = frame.u8(row.edge).u8(row.border).u8(row.threshold).u64(row.code).u16(row.count).u8(row.refusal);
         file.push(push_quad(frame, &row.quad));
     }
     for row in limits::lists() {
-        let frame = Frame::new().u8(5).u8(row.refusal).u16(row.length).u8(row.edge);
-        file.push(row.lent.iter().fold(frame, |frame, &length| frame.u16(length)));
+        let frame = push_plane(Frame::new().u8(5), &row.plane).u8(row.edge);
+        file.push(row.lent.iter().fold(frame, |frame, &length| frame.u16(length)).u8(row.refusal));
     }
     file
 }

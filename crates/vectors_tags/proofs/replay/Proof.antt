@@ -6,10 +6,10 @@ use Rattle.vectors_tags.proofs.replay.Statement.{statement}
 use Rattle.vectors_tags.proofs.replay.Tie as tie
 
 abbrev Inv-loop : tie.InvT-loop
-Inv-loop flow s tally₀ lent₀ at₀ tally lent at = Unit {0}
+Inv-loop flow s layout tally₀ lent₀ at₀ tally lent at = Unit {0}
 
 abbrev μ-loop : tie.MeasureT-loop
-μ-loop flow s tally₀ lent₀ at₀ tally lent at = length s - at
+μ-loop flow s layout tally₀ lent₀ at₀ tally lent at = length s - at
 
 pub replay-spec : {M : Type 1} → statement M
 replay-spec =

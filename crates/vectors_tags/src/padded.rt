@@ -1,0 +1,157 @@
+// 8-bit planes with filler: the layouts that vectors are replayed at, a packed picture laid out so, and a painted plane looked at
+// byte by byte.
+ghost use Prim.Native.Nat.{_≤_};
+use refusals::Frame;
+use vectors::digest_u8;
+use vectors::least;
+use vectors::next_number;
+use vectors::product;
+use vectors::u8_at;
+use vectors::u64_at;
+
+// Lines without filler;
+pub const PACKED: u8 = 0;
+
+// with a zero behind each line;
+pub const ZERO: u8 = 1;
+
+// with thirteen bytes of 255;
+pub const FULL: u8 = 2;
+
+// with as much noise as there are pixels;
+pub const NOISE: u8 = 3;
+
+// or with seven bytes that go on with the pixels of the next line, as in a plane that is read aslant.
+pub const NEXT_LINE: u8 = 4;
+
+fn pitch_of(layout: u8, width: usize) -> usize {
+    let pixels = least(width, 65536);
+    match layout {
+        PACKED => width,
+        ZERO => pixels + 1,
+        FULL => pixels + 13,
+        NOISE => pixels * 2,
+        _ => pixels + 7,
+    }
+}
+
+// The frame of a picture at a layout.
+pub fn frame_of(layout: u8, width: usize, height: usize) -> Frame {
+    Frame {
+        width,
+        height,
+        pitch: pitch_of(layout, width),
+    }
+}
+
+// A frame in three numbers of eight bytes.
+pub fn frame_at(s: &[u8]) -> Frame {
+    Frame {
+        width: u64_at(s, 0) as usize,
+        height: u64_at(s, 8) as usize,
+        pitch: u64_at(s, 16) as usize,
+    }
+}
+
+// How many bytes a plane has, or 65,536 where it has more.
+pub fn bytes_of(frame: Frame) -> usize
+    ensures { λ r. ⌜ r ≤ 65536 ⌝ }
+{
+    let height = frame.height;
+    if height == 0 {
+        return 0;
+    }
+    least(
+        product(frame.pitch, height - 1, 65536) + least(frame.width, 65536),
+        65536,
+    )
+}
+
+// Whether byte k of a plane is a pixel.
+fn is_pixel(width: usize, pitch: usize, k: usize) -> bool {
+    if pitch == 0 {
+        return false;
+    }
+    k % pitch < width
+}
+
+// The place in the packed picture of byte k of a plane, if that is a pixel. Filler goes on with the next line.
+fn packed_place(width: usize, pitch: usize, k: usize) -> usize {
+    if pitch == 0 {
+        return k;
+    }
+    product(k / pitch, width, 65536) + least(k % pitch, 65536)
+}
+
+// Byte k of noise.
+fn noise_at(k: usize) -> u8 {
+    (next_number(next_number(k as u64 ^ 0x9e37_79b9_7f4a_7c15)) >> 56) as u8
+}
+
+// Byte k of a plane, where that is filler and continues the picture so.
+fn filler_at(layout: u8, next: u8, k: usize) -> u8 {
+    match layout {
+        ZERO => 0,
+        FULL => 255,
+        NOISE => noise_at(k),
+        _ => next,
+    }
+}
+
+fn byte_at(pixels: &[u8], layout: u8, frame: Frame, k: usize) -> u8 {
+    let byte = u8_at(pixels, packed_place(frame.width, frame.pitch, k));
+    if is_pixel(frame.width, frame.pitch, k) {
+        return byte;
+    }
+    filler_at(layout, byte, k)
+}
+
+// Writes a packed picture into a plane, with the filler of a layout.
+pub fn lay_out(pixels: &[u8], layout: u8, frame: Frame, plane: &mut [u8]) {
+    let mut k = 0;
+    while k < plane.len() {
+        plane[k] = byte_at(pixels, layout, frame, k);
+        k += 1;
+    }
+}
+
+// A plane of noise, to be painted.
+pub fn fill(plane: &mut [u8]) {
+    lay_out(b"", NOISE, frame_of(NOISE, 0, 1), plane);
+}
+
+// What was seen of such a plane afterwards: the digest of its pixels, line by line, and whether every other byte is as before.
+pub struct Seen {
+    pub digest: u64,
+    pub kept: bool,
+}
+
+impl Seen {
+    // With byte k.
+    fn with(self, byte: u8, k: usize, is_pixel: bool) -> Self {
+        if is_pixel {
+            return Seen {
+                digest: digest_u8(self.digest, byte as u64),
+                kept: self.kept,
+            };
+        }
+        Seen {
+            digest: self.digest,
+            kept: self.kept & (byte == noise_at(k)),
+        }
+    }
+}
+
+// Looks at every byte of a plane of this width and pitch.
+pub fn look(plane: &[u8], width: usize, pitch: usize) -> Seen {
+    let mut seen = Seen {
+        digest: vectors::DIGEST,
+        kept: true,
+    };
+    let mut k = 0;
+    while k < plane.len() {
+        seen = seen.with(plane[k], k, is_pixel(width, pitch, k));
+        k += 1;
+    }
+    seen
+}
