@@ -80,7 +80,7 @@ fn replay_quads() {
     replay_file(QUADS, b"refusals");
 }
 
-// The files of pictures at a layout with filler, under a heading.
+// The files of pictures at a layout with filler, under a heading that gives the pitch.
 fn replay_padded(layout: u8, heading: &[u8]) {
     io::write_all(STDOUT_FILENO, heading);
     replay_at(layout, QUADS, b"readings");
@@ -94,8 +94,8 @@ fn main() {
     replay_quads();
     replay_file(PAINTER, b"paintings");
     replay_file(PAINTER, b"prints");
-    replay_padded(padded::ZERO, b"with a zero behind each line:\n");
-    replay_padded(padded::FULL, b"with thirteen bytes of 255:\n");
-    replay_padded(padded::NOISE, b"with as much noise as pixels:\n");
-    replay_padded(padded::NEXT_LINE, b"with seven pixels of the next line:\n");
+    replay_padded(padded::ZERO, b"pitch width + 1:\n");
+    replay_padded(padded::FULL, b"pitch width + 13:\n");
+    replay_padded(padded::NOISE, b"pitch 2 x width:\n");
+    replay_padded(padded::NEXT_LINE, b"pitch width + 7:\n");
 }

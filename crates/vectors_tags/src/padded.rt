@@ -9,19 +9,19 @@ use vectors::product;
 use vectors::u8_at;
 use vectors::u64_at;
 
-// Lines without filler;
+// How a picture is laid out. Its lines have no filler;
 pub const PACKED: u8 = 0;
 
-// with a zero behind each line;
+// a zero behind each;
 pub const ZERO: u8 = 1;
 
-// with thirteen bytes of 255;
+// thirteen bytes of 255;
 pub const FULL: u8 = 2;
 
-// with as much noise as there are pixels;
+// as many bytes of noise as it has pixels;
 pub const NOISE: u8 = 3;
 
-// or with seven bytes that go on with the pixels of the next line, as in a plane that is read aslant.
+// or seven bytes that go on with the pixels of the next line, as a reader without a pitch would have it.
 pub const NEXT_LINE: u8 = 4;
 
 fn pitch_of(layout: u8, width: usize) -> usize {
@@ -75,7 +75,7 @@ fn is_pixel(width: usize, pitch: usize, k: usize) -> bool {
     k % pitch < width
 }
 
-// The place in the packed picture of byte k of a plane, if that is a pixel. Filler goes on with the next line.
+// Where byte k of a plane stands in the packed picture, if it is a pixel. Filler goes on with the next line.
 fn packed_place(width: usize, pitch: usize, k: usize) -> usize {
     if pitch == 0 {
         return k;
@@ -88,7 +88,7 @@ fn noise_at(k: usize) -> u8 {
     (next_number(next_number(k as u64 ^ 0x9e37_79b9_7f4a_7c15)) >> 56) as u8
 }
 
-// Byte k of a plane, where that is filler and continues the picture so.
+// Byte k of a plane, where that is filler. `next` goes on with the next line.
 fn filler_at(layout: u8, next: u8, k: usize) -> u8 {
     match layout {
         ZERO => 0,
@@ -115,21 +115,21 @@ pub fn lay_out(pixels: &[u8], layout: u8, frame: Frame, plane: &mut [u8]) {
     }
 }
 
-// A plane of noise, to be painted.
+// A plane that is to be painted holds noise: it is laid out as filler alone.
 pub fn fill(plane: &mut [u8]) {
     lay_out(b"", NOISE, frame_of(NOISE, 0, 1), plane);
 }
 
-// What was seen of such a plane afterwards: the digest of its pixels, line by line, and whether every other byte is as before.
+// What was seen of a plane after it was painted: the digest of its pixels, line by line, and whether every other byte is as before.
 pub struct Seen {
     pub digest: u64,
     pub kept: bool,
 }
 
 impl Seen {
-    // With byte k.
-    fn with(self, byte: u8, k: usize, is_pixel: bool) -> Self {
-        if is_pixel {
+    // With byte k of the plane.
+    fn with(self, k: usize, byte: u8, pixel: bool) -> Self {
+        if pixel {
             return Seen {
                 digest: digest_u8(self.digest, byte as u64),
                 kept: self.kept,
@@ -150,7 +150,7 @@ pub fn look(plane: &[u8], width: usize, pitch: usize) -> Seen {
     };
     let mut k = 0;
     while k < plane.len() {
-        seen = seen.with(plane[k], k, is_pixel(width, pitch, k));
+        seen = seen.with(k, plane[k], is_pixel(width, pitch, k));
         k += 1;
     }
     seen

@@ -52,7 +52,7 @@ fn painted(record: &[u8], frame: Frame, plane: &mut [u8]) -> Painted {
     )
 }
 
-// A refused call paints no pixel.
+// A refused call paints no pixel: every byte is as before.
 fn looked(plane: &[u8], frame: Frame, answer: Painted) -> Seen {
     match answer {
         Painted::Tag(_) => padded::look(plane, frame.width, frame.pitch),
@@ -67,8 +67,8 @@ fn plane_alike(record: &[u8], frame: Frame, plane: &mut [u8]) -> bool {
     painted_alike(rest(record, 66), answer) & (seen.digest == u64_at(record, 67)) & seen.kept
 }
 
-// Whether a plane is packed, and has room in the buffer at a layout.
-fn is_laid_out(own: Frame, length: usize, frame: Frame) -> bool {
+// Whether a plane of its own frame and length is packed, and has room in the buffer with another frame.
+fn has_room(own: Frame, length: usize, frame: Frame) -> bool {
     (own.pitch == own.width)
         & (length == product(own.width, own.height, 65536))
         & (padded::bytes_of(frame) < 65536)
@@ -80,7 +80,7 @@ fn painting_alike(record: &[u8], layout: u8) -> bool {
     let own = padded::frame_at(rest(record, 1));
     let length = least(u32_at(record, 25) as usize, 65536);
     let frame = padded::frame_of(layout, own.width, own.height);
-    if is_laid_out(own, length, frame) {
+    if has_room(own, length, frame) {
         let n = padded::bytes_of(frame);
         return plane_alike(record, frame, &mut plane[0..n]);
     }
@@ -119,8 +119,12 @@ fn painted_in(record: &[u8], frame: Frame, plane: &mut [u8]) -> Painted {
 }
 
 fn print_alike(record: &[u8], frame: Frame, plane: &mut [u8]) -> bool {
-    match painted_in(record, frame, plane) {
-        Painted::Tag(quad) => starts_alike(rest(record, 18), u8_at(record, 3), plane, frame, quad),
+    let answer = painted_in(record, frame, plane);
+    let seen = looked(plane, frame, answer);
+    match answer {
+        Painted::Tag(quad) => {
+            seen.kept & starts_alike(rest(record, 18), u8_at(record, 3), plane, frame, quad)
+        }
         Painted::Refused(_) => false,
     }
 }
