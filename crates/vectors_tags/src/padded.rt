@@ -24,23 +24,20 @@ pub const NOISE: u8 = 3;
 // or seven bytes that go on with the pixels of the next line, as a reader without a pitch would have it.
 pub const NEXT_LINE: u8 = 4;
 
-fn pitch_of(layout: u8, width: usize) -> usize {
+// The frame of a picture at a layout.
+pub fn frame_of(layout: u8, width: usize, height: usize) -> Frame {
     let pixels = least(width, 65536);
-    match layout {
+    let pitch = match layout {
         PACKED => width,
         ZERO => pixels + 1,
         FULL => pixels + 13,
         NOISE => pixels * 2,
         _ => pixels + 7,
-    }
-}
-
-// The frame of a picture at a layout.
-pub fn frame_of(layout: u8, width: usize, height: usize) -> Frame {
+    };
     Frame {
         width,
         height,
-        pitch: pitch_of(layout, width),
+        pitch,
     }
 }
 
@@ -67,43 +64,31 @@ pub fn bytes_of(frame: Frame) -> usize
     )
 }
 
-// Whether byte k of a plane is a pixel.
-fn is_pixel(width: usize, pitch: usize, k: usize) -> bool {
-    if pitch == 0 {
-        return false;
-    }
-    k % pitch < width
-}
-
-// Where byte k of a plane stands in the packed picture, if it is a pixel. Filler goes on with the next line.
-fn packed_place(width: usize, pitch: usize, k: usize) -> usize {
-    if pitch == 0 {
-        return k;
-    }
-    product(k / pitch, width, 65536) + least(k % pitch, 65536)
-}
-
 // Byte k of noise.
 fn noise_at(k: usize) -> u8 {
     (next_number(next_number(k as u64 ^ 0x9e37_79b9_7f4a_7c15)) >> 56) as u8
 }
 
-// Byte k of a plane, where that is filler. `next` goes on with the next line.
-fn filler_at(layout: u8, next: u8, k: usize) -> u8 {
+// Byte k of a plane: a pixel of the packed picture, or else filler.
+fn byte_at(pixels: &[u8], layout: u8, frame: Frame, k: usize) -> u8 {
+    let pitch = frame.pitch;
+    if pitch == 0 {
+        return 0;
+    }
+    let column = k % pitch;
+    let byte = u8_at(
+        pixels,
+        product(k / pitch, frame.width, 65536) + least(column, 65536),
+    );
+    if column < frame.width {
+        return byte;
+    }
     match layout {
         ZERO => 0,
         FULL => 255,
         NOISE => noise_at(k),
-        _ => next,
+        _ => byte,
     }
-}
-
-fn byte_at(pixels: &[u8], layout: u8, frame: Frame, k: usize) -> u8 {
-    let byte = u8_at(pixels, packed_place(frame.width, frame.pitch, k));
-    if is_pixel(frame.width, frame.pitch, k) {
-        return byte;
-    }
-    filler_at(layout, byte, k)
 }
 
 // Writes a packed picture into a plane, with the filler of a layout.
@@ -117,7 +102,12 @@ pub fn lay_out(pixels: &[u8], layout: u8, frame: Frame, plane: &mut [u8]) {
 
 // A plane that is to be painted holds noise: it is laid out as filler alone.
 pub fn fill(plane: &mut [u8]) {
-    lay_out(b"", NOISE, frame_of(NOISE, 0, 1), plane);
+    let frame = Frame {
+        width: 0,
+        height: 1,
+        pitch: 1,
+    };
+    lay_out(b"", NOISE, frame, plane);
 }
 
 // What was seen of a plane after it was painted: the digest of its pixels, line by line, and whether every other byte is as before.
@@ -148,9 +138,12 @@ pub fn look(plane: &[u8], width: usize, pitch: usize) -> Seen {
         digest: vectors::DIGEST,
         kept: true,
     };
+    if pitch == 0 {
+        return seen;
+    }
     let mut k = 0;
     while k < plane.len() {
-        seen = seen.with(k, plane[k], is_pixel(width, pitch, k));
+        seen = seen.with(k, plane[k], k % pitch < width);
         k += 1;
     }
     seen

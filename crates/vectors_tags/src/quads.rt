@@ -21,6 +21,7 @@ use vectors::product;
 use vectors::rest;
 use vectors::u8_at;
 use vectors::u16_at;
+use vectors::u32_at;
 use vectors::u64_at;
 ghost use mathlib.Core.Path.{_≡_};
 ghost use Prim.Native.Nat.{_<_, _≤_};
@@ -31,16 +32,6 @@ pub fn reading_alike(plane: &[u8], frame: Frame, number: u8, quad: Quad, s: &[u8
     answers::same(
         answer_of(try_decode_quad_in(plane, frame, number, quad)),
         answer_at(s),
-    )
-}
-
-fn quad_alike(frame: &[u8], plane: &[u8], picture: Frame) -> bool {
-    reading_alike(
-        plane,
-        picture,
-        u8_at(frame, 1),
-        quad_at(rest(frame, 2)),
-        rest(frame, 34),
     )
 }
 
@@ -118,7 +109,13 @@ fn plane_alike(
 ) -> bool {
     padded::lay_out(rest(lent, 5), layout, picture, plane);
     if kind == 1 {
-        return quad_alike(frame, plane, picture);
+        return reading_alike(
+            plane,
+            picture,
+            u8_at(frame, 1),
+            quad_at(rest(frame, 2)),
+            rest(frame, 34),
+        );
     }
     list_alike(frame, plane, picture)
 }
@@ -183,31 +180,12 @@ fn number_alike(frame: &[u8], pixels: &[u8], codes: &[u64]) -> bool {
 fn quad_number_alike(frame: &[u8]) -> bool {
     let pixels = [9u8; 8200];
     let codes = [u64_at(frame, 32); 1025];
-    let n = length_at(frame, 25, 8200);
+    let n = least(u32_at(frame, 25) as usize, 8200);
     let count = length_at(frame, 40, 1025);
     number_alike(frame, &pixels[0..n], &codes[0..count])
 }
 
-// The same for a list of quads that are one point.
-fn listed(frame: &[u8], pixels: &[u8], quads: &[f32], rows: &mut [u64], corners: &mut [f32]) -> u8 {
-    let codes = [0u64; 1];
-    let family = Family {
-        edge: u8_at(frame, 29),
-        border: 2,
-        hamming_distance: 1,
-    };
-    number_of(try_decode_quads(
-        pixels,
-        padded::frame_at(rest(frame, 1)),
-        family,
-        &codes,
-        quads,
-        rows,
-        corners,
-    ))
-}
-
-// A refused list leaves the outputs as they were.
+// The same for a list of quads that are one point. A refused list leaves the outputs as they were.
 fn outputs_alike(
     frame: &[u8],
     pixels: &[u8],
@@ -217,9 +195,23 @@ fn outputs_alike(
 ) -> bool
     requires { ⌜ (length (now rows) ≡ 3076) × (length (now corners) ≡ 8201) ⌝ }
 {
+    let codes = [0u64; 1];
+    let family = Family {
+        edge: u8_at(frame, 29),
+        border: 2,
+        hamming_distance: 1,
+    };
     let a = length_at(frame, 32, 3076);
     let b = length_at(frame, 34, 8201);
-    let number = listed(frame, pixels, quads, &mut rows[0..a], &mut corners[0..b]);
+    let number = number_of(try_decode_quads(
+        pixels,
+        padded::frame_at(rest(frame, 1)),
+        family,
+        &codes,
+        quads,
+        &mut rows[0..a],
+        &mut corners[0..b],
+    ));
     let kept = rows_alike(frame, 0, rows, corners);
     (number == u8_at(frame, 36)) & ((number == 0) | kept)
 }
@@ -229,7 +221,7 @@ fn list_number_alike(frame: &[u8]) -> bool {
     let quads = [1.0f32; 8200];
     let mut rows = [7u64; 3076];
     let mut corners = [7.0f32; 8201];
-    let n = length_at(frame, 25, 8200);
+    let n = least(u32_at(frame, 25) as usize, 8200);
     let count = length_at(frame, 30, 8200);
     outputs_alike(
         frame,

@@ -15,12 +15,13 @@ pub look-spec : {M : Type 1} → statement M
 look-spec = tie.close (tie.spec
     Inv-loop
     μ-loop
+    (λ c. search needs)  -- returns
     (λ c. search needs)  -- loop-holds
     (λ c. search needs)  -- shared-slice-read-with
-    (λ c κs. search needs)  -- is-pixel-requires
+    (λ c. search needs)  -- rem-with
     (λ c κs. search needs)  -- with-requires
     (λ c. search needs)  -- add-k
     (λ c. search needs)  -- loop-less
     (λ c. search needs)  -- loop-again
-    (λ c. search needs)  -- returns
+    (λ c. search needs)  -- returns-2
     )
