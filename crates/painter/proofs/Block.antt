@@ -3,7 +3,6 @@ use mathlib.Core.Path.{_≡_, refl, sym, ap, ap₂, _∙_}
 use mathlib.Core.Bool.{Bool, true, false, _&&_, _||_, cond, and-or-distrib-left, and-or-distrib-right, and-false, true≢false}
 use mathlib.Core.List.{List}
 use Prim.Native.Nat.{ℕ, _+_, _-_, _<_, _≤_}
-use native.Mathlib.Nat.{mod-lt}
 use native.Mathlib.Omega.{arith}
 use borrow.Author.Tests.{ltb-false}
 use lib.ListN.{length, getD}
@@ -117,17 +116,3 @@ whole-block frame light plane next good e =
     let h = frame .height in
     e ∙ repainted-same frame (blockPixel 0 0 w h light) (λ x y old. light) plane (good-frame good) (λ x y old hx hy.
     ap (λ (t : Bool). cond t light old) (block-in 0 0 w h x y (omega arith) (omega arith) (omega arith) (omega arith)))
-
--- without filler all bytes are pixels, and one run has them all
-pub whole-run : (frame : Frame) (light : ℕ) (plane next : List ℕ) → badFrame (length plane) frame ≡ false → frame .pitch ≡ frame .width
-    → next ≡ runFilled 0 (length plane) light plane → next ≡ filled frame light plane
-whole-run frame light plane next good packed e =
-    let n = length plane in
-    e ∙ is-repainted frame (λ x y old. light) plane (runFilled 0 n light plane) (length-run 0 light plane n)
-    (λ k b.
-    byte-is frame (λ x y old. light) k (getD plane k 0) (getD (runFilled 0 n light plane) k 0)
-    (λ _. byte-run 0 light plane n k b ∙ ap (λ (t : Bool). cond t light (getD plane k 0)) (within 0 n k (omega arith) (omega arith)))
-    (λ filler.
-    let beyond = ltb-false (columnOf frame k) (frame .width) filler in
-    let some : 0 < frame .pitch = omega (arith, good-frame good .sides .wide) in
-    absurd (omega (arith, mod-lt k some))))

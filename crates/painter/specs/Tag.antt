@@ -40,10 +40,12 @@ isLight edge border word c =
     between border edge (c .row)
     && (between border edge (c .column) && eqb (moduleBit edge word (c .row - border) (c .column - border)) 1)
 
--- the shade of the cell that the picture has at c, rows and columns counted from the tag's upper left corner
+-- the cell that the picture has at c, rows and columns counted from the tag's upper left corner, is light; and its shade
+abbrev pub showsLight : (edge border word : ℕ) → Print → Cell → Bool
+showsLight edge border word print c = isLight edge border word (turnedCell (sideOf edge border) (print .turn) c)
+
 abbrev pub shadeOf : (edge border word : ℕ) → Print → Cell → ℕ
-shadeOf edge border word print c =
-    cond (isLight edge border word (turnedCell (sideOf edge border) (print .turn) c)) (print .light) (print .dark)
+shadeOf edge border word print c = cond (showsLight edge border word print c) (print .light) (print .dark)
 
 -- the cell that has pixel (x, y) of the tag
 abbrev pub cellOf : Print → ℕ → ℕ → Cell

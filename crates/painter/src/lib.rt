@@ -9,8 +9,8 @@ ghost use lib.ListN.{length};
 ghost use Rattle.refusals.specs.Pixels.{badFrame};
 ghost use Rattle.tables.specs.Table.{badEdge, badBorder};
 ghost use Rattle.painter.specs.Picture.{runFilled, repainted, blockPixel, filled};
-ghost use Rattle.painter.specs.Tag.{sideOf, cellAt, turnedCell, isLight, shadeOf, sizeOf, drawn};
-ghost use Rattle.painter.specs.Part.{partPixel};
+ghost use Rattle.painter.specs.Tag.{sideOf, cellAt, turnedCell, isLight, showsLight, sizeOf, drawn};
+ghost use Rattle.painter.specs.Part.{cellPixel, partPixel};
 ghost use Rattle.painter.specs.Corners.{halfBefore, printQuad};
 ghost use Rattle.painter.specs.Printable.{badStyle, endsLate, badPrint, Printable};
 
@@ -77,17 +77,12 @@ fn fill_block(
     }
 }
 
-// Every pixel light. Filler stays as it is, here and in all that is drawn. A plane without filler is one run, which is faster.
+// Every pixel light. Filler stays as it is, here and in all that is drawn.
 pub fn fill(plane: &mut [u8], frame: Frame, light: u8)
     requires { ⌜ badFrame (length (now plane)) frame ≡ false ⌝ }
     ensures { λ r. ⌜ now (plane .exit) ≡ filled frame light (now (plane .entry)) ⌝ }
 {
-    let count = plane.len();
-    if frame.pitch == frame.width {
-        fill_run(plane, 0, count, light);
-    } else {
-        fill_block(plane, frame, 0, 0, frame.width, frame.height, light);
-    }
+    fill_block(plane, frame, 0, 0, frame.width, frame.height, light);
 }
 
 // The print's row and column of the cell that the picture has in `row` and `column`.
@@ -135,17 +130,38 @@ fn is_light(edge: usize, border: usize, word: u64, cell: Cell) -> bool
     (word >> place) & 1 == 1
 }
 
-// The shade of the cell that the picture has in `row` and `column` of the tag.
-fn shade(edge: u8, border: u8, word: u64, print: Print, row: usize, column: usize) -> u8
+// The cell that the picture has in `row` and `column` of the tag is light.
+fn shows_light(edge: u8, border: u8, word: u64, print: Print, row: usize, column: usize) -> bool
     requires { ⌜ (edge ≤ 8) × (border ≤ 4) × (print .turn ≤ 3) × (row < sideOf edge border) × (column < sideOf edge border) ⌝ }
-    ensures { λ r. ⌜ r ≡ shadeOf edge border word print (cellAt row column) ⌝ }
+    ensures { λ r. ⌜ r ≡ showsLight edge border word print (cellAt row column) ⌝ }
 {
     let cell = turned_cell(side_of(edge, border), print.turn, row, column);
-    let light = is_light(edge as usize, border as usize, word, cell);
-    if light { print.light } else { print.dark }
+    is_light(edge as usize, border as usize, word, cell)
 }
 
-// One row of the tag's cells.
+// The cell in `row` and `column` of the tag, where it is light.
+fn draw_cell(
+    plane: &mut [u8],
+    frame: Frame,
+    edge: u8,
+    border: u8,
+    word: u64,
+    print: Print,
+    row: usize,
+    column: usize,
+)
+    requires { ⌜ Printable (length (now plane)) frame edge border word print × (row < sideOf edge border) × (column < sideOf edge border) ⌝ }
+    ensures { λ r. ⌜ now (plane .exit) ≡ repainted frame (cellPixel edge border word print row column) (now (plane .entry)) ⌝ }
+{
+    let cell = print.cell;
+    if shows_light(edge, border, word, print, row, column) {
+        let x = print.x + column * cell;
+        let y = print.y + row * cell;
+        fill_block(plane, frame, x, y, cell, cell, print.light);
+    }
+}
+
+// The light cells of one row of the tag.
 fn draw_row(
     plane: &mut [u8],
     frame: Frame,
@@ -159,20 +175,17 @@ fn draw_row(
     ensures { λ r. ⌜ now (plane .exit) ≡ repainted frame (partPixel edge border word print (print .y + row * print .cell) (sizeOf edge border print) (print .cell)) (now (plane .entry)) ⌝ }
 {
     let side = side_of(edge, border);
-    let cell = print.cell;
-    let y = print.y + row * cell;
     let mut column = 0;
     while column < side {
-        let shade = shade(edge, border, word, print, row, column);
-        fill_block(plane, frame, print.x + column * cell, y, cell, cell, shade);
+        draw_cell(plane, frame, edge, border, word, print, row, column);
         column += 1;
     }
 }
 
-// The tag. All other pixels stay as they are.
-pub fn draw_tag(plane: &mut [u8], frame: Frame, edge: u8, border: u8, word: u64, print: Print)
+// The light cells of all rows.
+fn draw_rows(plane: &mut [u8], frame: Frame, edge: u8, border: u8, word: u64, print: Print)
     requires { ⌜ Printable (length (now plane)) frame edge border word print ⌝ }
-    ensures { λ r. ⌜ now (plane .exit) ≡ drawn frame edge border word print (now (plane .entry)) ⌝ }
+    ensures { λ r. ⌜ now (plane .exit) ≡ repainted frame (partPixel edge border word print (print .y) (sizeOf edge border print) (sizeOf edge border print)) (now (plane .entry)) ⌝ }
 {
     let side = side_of(edge, border);
     let mut row = 0;
@@ -180,6 +193,16 @@ pub fn draw_tag(plane: &mut [u8], frame: Frame, edge: u8, border: u8, word: u64,
         draw_row(plane, frame, edge, border, word, print, row);
         row += 1;
     }
+}
+
+// The tag: all of it dark, then its light cells. All other pixels stay as they are.
+pub fn draw_tag(plane: &mut [u8], frame: Frame, edge: u8, border: u8, word: u64, print: Print)
+    requires { ⌜ Printable (length (now plane)) frame edge border word print ⌝ }
+    ensures { λ r. ⌜ now (plane .exit) ≡ drawn frame edge border word print (now (plane .entry)) ⌝ }
+{
+    let size = size_of(edge, border, print);
+    fill_block(plane, frame, print.x, print.y, size, size, print.dark);
+    draw_rows(plane, frame, edge, border, word, print);
 }
 
 // n - 1/2

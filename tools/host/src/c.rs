@@ -27,6 +27,7 @@ macro_rules! crossing {
     };
     (@ [$(#[$about:meta])* $name:ident $($parameters:tt)*] [$($declared:tt)*] [$($handed:tt)*]) => {
         $(#[$about])*
+        #[inline]
         #[allow(clippy::too_many_arguments)]
         pub fn $name($($parameters)*) -> u32 {
             // SAFETY: name, order and types are those of the crate muosleap_c and of include/muosleap.h. `usize` is C's `size_t`.

@@ -57,6 +57,7 @@ impl Quad {
 
 /// From x0 y0 x1 y1 x2 y2 x3 y3.
 impl From<[f32; 8]> for Quad {
+    #[inline]
     fn from(numbers: [f32; 8]) -> Quad {
         Quad { corners: [0, 1, 2, 3].map(|k| Point { x: numbers[2 * k], y: numbers[2 * k + 1] }) }
     }
@@ -64,6 +65,7 @@ impl From<[f32; 8]> for Quad {
 
 /// As x0 y0 x1 y1 x2 y2 x3 y3.
 impl From<Quad> for [f32; 8] {
+    #[inline]
     fn from(quad: Quad) -> [f32; 8] {
         let [p, q, r, s] = quad.corners;
         [p.x, p.y, q.x, q.y, r.x, r.y, s.x, s.y]

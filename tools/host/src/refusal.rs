@@ -143,6 +143,7 @@ impl Error for NoRefusal {}
 ///
 /// # Panics
 /// At a number that is no refusal: the archive is not the one that these wrappers were written for.
+#[inline]
 pub(crate) fn accepted(answer: u32) -> Result<(), Refusal> {
     if answer == 0 {
         return Ok(());

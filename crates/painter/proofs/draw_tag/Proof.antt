@@ -1,76 +1,59 @@
--- After `row` turns that many rows of cells are drawn, and all other pixels are as they were. Assumes nothing.
+-- Light cells on the dark square are the tag. Assumes nothing.
 use mathlib.Core.Path.{_≡_, ap, _∙_}
-use Prim.Native.Nat.{ℕ, _-_, _*_, _≤_}
+use Prim.Native.Nat.{ℕ}
 use native.Mathlib.Omega.{arith}
 use lib.ListN.{length}
 use Rattle.refusals.specs.Pixels.{badFrame}
-use Rattle.painter.specs.Picture.{repainted}
-use Rattle.painter.specs.Tag.{sideOf, sizeOf}
-use Rattle.painter.specs.Part.{partPixel}
+use Rattle.painter.specs.Picture.{repainted, blockPixel}
+use Rattle.painter.specs.Tag.{sizeOf}
 use Rattle.painter.proofs.Picture.{length-repainted}
-use Rattle.painter.proofs.Part.{no-row, one-row-more}
+use Rattle.painter.proofs.Part.{tag-drawn}
+use Rattle.painter.proofs.Printable.{good-print}
+use borrow.Author.Needs.{needs}
 use Rattle.painter.proofs.draw_tag.Statement.{statement}
 use Rattle.painter.proofs.draw_tag.Tie as tie
 
-abbrev Inv-loop : tie.InvT-loop
-Inv-loop plane₀ frame edge border word print side row₀ plane row = (side ≡ sideOf edge border) × (row ≤ side) × (plane ≡ repainted frame (partPixel edge border word print (print .y) (sizeOf edge border print) (row * print .cell)) plane₀)
+size-of-requires : tie.Need-size-of-requires
+size-of-requires c κs = let g = good-print (c .before .pre) in omega (arith, g .placed .right, g .framed .sides .width-le)
 
-abbrev μ-loop : tie.MeasureT-loop
-μ-loop plane₀ frame edge border word print side row₀ plane row = side - row
+fill-block-requires : tie.Need-fill-block-requires
+fill-block-requires c κs =
+    let z = c .before .size-of .ensures in
+    let s = c .before .before .before in
+    let g = good-print (s .pre) in
+    (s .pre .planes, omega (arith, z, g .placed .right), omega (arith, z, g .placed .low))
 
-loop-holds : tie.Need-loop-holds Inv-loop μ-loop
-loop-holds c =
-    let a = c .before .before .args in
-    (c .side-of .ensures, omega arith, no-row (a .frame) (a .edge) (a .border) (a .word) (a .print) (a .plane .now) (sizeOf (a .edge) (a .border) (a .print)))
+-- the square is dark
+dark : (c : tie.After-fill-block) → let a = c .before .before .before .before .args in
+    let size = sizeOf (a .edge) (a .border) (a .print) in
+    c .fill-block .last .0 ≡ repainted (a .frame) (blockPixel (a .print .x) (a .print .y) size size (a .print .dark)) (a .plane .now)
+dark c =
+    let z = c .before .before in
+    let a = z .before .before .args in
+    c .fill-block .ensures ∙ ap (λ (n : ℕ). repainted (a .frame) (blockPixel (a .print .x) (a .print .y) n n (a .print .dark)) (a .plane .now)) (z .size-of .ensures)
 
--- the plane is as long as it was
-long : (c : tie.At-loop Inv-loop μ-loop) → length (c .loop .plane) ≡ length (c .before .before .before .args .plane .now)
-long c =
-    let a = c .before .before .before .args in
-    ap length (c .loop .inv .2)
-    ∙ length-repainted (a .frame) (partPixel (a .edge) (a .border) (a .word) (a .print) (a .print .y) (sizeOf (a .edge) (a .border) (a .print)) (c .loop .row * a .print .cell)) (a .plane .now)
+draw-rows-requires : tie.Need-draw-rows-requires
+draw-rows-requires c κs =
+    let f = c .before .before .before in
+    let s = f .before .before .before .before in
+    let a = s .args in
+    let size = sizeOf (a .edge) (a .border) (a .print) in
+    let long = ap length (dark f) ∙ length-repainted (a .frame) (blockPixel (a .print .x) (a .print .y) size size (a .print .dark)) (a .plane .now) in
+    record { planes = ap (λ (n : ℕ). badFrame n (a .frame)) long ∙ s .pre .planes; edges = s .pre .edges; borders = s .pre .borders; prints = s .pre .prints }
 
-draw-row-requires : tie.Need-draw-row-requires Inv-loop μ-loop
-draw-row-requires c κs =
-    let l = c .before .before in
-    let s = l .before .before .before in
-    let p = s .pre in (
-      record { planes = ap (λ (n : ℕ). badFrame n (s .args .frame)) (long l) ∙ p .planes; edges = p .edges; borders = p .borders; prints = p .prints },
-      omega arith,
-    )
-
-loop-again : tie.Need-loop-again Inv-loop μ-loop
-loop-again c =
-    let f = c .before .before in
-    let l = f .before .before .before in
-    let a = l .before .before .before .args in (
-      l .loop .inv .0,
-      omega arith,
-      one-row-more (a .frame) (a .edge) (a .border) (a .word) (a .print) (a .plane .now) (sizeOf (a .edge) (a .border) (a .print)) (l .loop .row) (l .loop .plane) (f .draw-row .last .0) (l .loop .inv .2) (f .draw-row .ensures),
-    )
-
-same-length : tie.Need-same-length Inv-loop μ-loop
-same-length c = long (c .before)
-
-returns : tie.Need-returns Inv-loop μ-loop
+returns : tie.Need-returns
 returns c =
-    let a = c .before .before .before .before .args in
-    let l = c .before .loop in
-    let e : l .row ≡ sideOf (a .edge) (a .border) = omega arith in
-    l .inv .2
-    ∙ ap (λ (n : ℕ). repainted (a .frame) (partPixel (a .edge) (a .border) (a .word) (a .print) (a .print .y) (sizeOf (a .edge) (a .border) (a .print)) (n * a .print .cell)) (a .plane .now)) e
+    let d = c .before .before in
+    let f = d .before .before .before .before in
+    let a = f .before .before .before .before .args in
+    tag-drawn (a .frame) (a .edge) (a .border) (a .word) (a .print) (a .plane .now) (f .fill-block .last .0) (d .draw-rows .last .0) (dark f) (d .draw-rows .ensures)
 
 pub draw-tag-spec : {M : Type 1} → statement M
 draw-tag-spec =
     tie.close
     (tie.spec
-    Inv-loop
-    μ-loop
-    (λ c κs. tt)  -- side-of-requires
-    loop-holds
-    draw-row-requires
-    (λ c. omega arith)  -- add-row
-    (λ c. omega arith)  -- loop-less
-    loop-again
-    same-length
+    size-of-requires
+    fill-block-requires
+    draw-rows-requires
+    (λ c. search needs)  -- same-length
     returns)

@@ -1,5 +1,5 @@
--- One run, or the block of all rows and columns, has every pixel. Assumes nothing.
-use Rattle.painter.proofs.Block.{whole-block, whole-run}
+-- The block of all rows and columns has every pixel. Assumes nothing.
+use Rattle.painter.proofs.Block.{whole-block}
 use borrow.Author.Needs.{needs}
 use Rattle.painter.proofs.fill.Statement.{statement}
 use Rattle.painter.proofs.fill.Tie as tie
@@ -7,22 +7,12 @@ use Rattle.painter.proofs.fill.Tie as tie
 returns : tie.Need-returns
 returns c =
     let k = c .before .before in
-    let s = k .before .before .before .before .before in
-    let a = s .args in
-    whole-run (a .frame) (a .light) (a .plane .now) (k .fill-run .last .0) (s .pre) (k .before .before .if1 .taken) (k .fill-run .ensures)
-
-returns-2 : tie.Need-returns-2
-returns-2 c =
-    let k = c .before .before in
-    let s = k .before .before .before .before .before in
+    let s = k .before .before .before in
     let a = s .args in
     whole-block (a .frame) (a .light) (a .plane .now) (k .fill-block .last .0) (s .pre) (k .fill-block .ensures)
 
 pub fill-spec : {M : Type 1} → statement M
 fill-spec = tie.close (tie.spec
-    (λ c κs. search needs)  -- fill-run-requires
     (λ c κs. search needs)  -- fill-block-requires
     (λ c. search needs)  -- same-length
-    returns
-    (λ c. search needs)  -- same-length-2
-    returns-2)
+    returns)
