@@ -94,8 +94,8 @@ fn main() {
     replay_quads();
     replay_file(PAINTER, b"paintings");
     replay_file(PAINTER, b"prints");
-    replay_padded(padded::ZERO, b"pitch width + 1:\n");
-    replay_padded(padded::FULL, b"pitch width + 13:\n");
-    replay_padded(padded::NOISE, b"pitch 2 x width:\n");
-    replay_padded(padded::NEXT_LINE, b"pitch width + 7:\n");
+    replay_padded(padded::ZERO, b"packed planes again at pitch width + 1:\n");
+    replay_padded(padded::FULL, b"packed planes again at pitch width + 13:\n");
+    replay_padded(padded::NOISE, b"packed planes again at pitch 2 x width:\n");
+    replay_padded(padded::NEXT_LINE, b"packed planes again at pitch width + 7:\n");
 }

@@ -18,7 +18,7 @@ pub const ZERO: u8 = 1;
 // thirteen bytes of 255;
 pub const FULL: u8 = 2;
 
-// as many bytes of noise as it has pixels;
+// as many bytes of noise as the line has pixels;
 pub const NOISE: u8 = 3;
 
 // or seven bytes that go on with the pixels of the next line, as a reader without a pitch would have it.

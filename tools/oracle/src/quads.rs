@@ -245,9 +245,14 @@ pub fn push_plane(frame: Frame, plane: &limits::Plane) -> Frame {
     frame.u64(plane.width).u64(plane.height).u64(plane.pitch).u32(plane.length)
 }
 
+/// The most bytes of a plane that the replay of a call by limits.txt has room for.
+const ROOM: u32 = 8_200;
+
 /// The limits of documents 01 and 02 for the quad reader and the list reader.
 fn refusals() -> File {
     let mut file = File::new("vectors_tags/data/refusals");
+    assert!(limits::quads().iter().all(|row| row.plane.length <= ROOM));
+    assert!(limits::lists().iter().all(|row| row.plane.length <= ROOM));
     for row in limits::quads() {
         let frame = push_plane(Frame::new().u8(4), &row.plane);
         let frame = frame.u8(row.edge).u8(row.border).u8(row.threshold).u64(row.code).u16(row.count).u8(row.refusal);
