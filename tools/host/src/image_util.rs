@@ -21,7 +21,8 @@ pub fn kernel(sigma: f32) -> Vec<f32> {
     values.into_iter().map(|value| value / sum).collect()
 }
 
-/// The pixels of an 8-bit picture as floats from 0.0 to 1.0, one line right after the other, without filler.
+/// The pixels of an 8-bit picture as floats from 0.0 to 1.0, one line right after the other, without filler. Refusal 1 is not tested
+/// here: of a picture that would be refused these are the pixels that its bytes have.
 ///
 /// ```
 /// use muosleap::{Picture, image_util::to_unit};
@@ -170,12 +171,12 @@ pub struct Saddles {
 impl Saddles {
     /// Buffers for pictures of these sides.
     pub fn new(shape: Shape) -> Saddles {
-        // Larger pictures are refused, with whatever buffers.
-        let most = Shape { width: shape.width.min(4_096), height: shape.height.min(4_096) };
-        let plane = vec![0.0; most.len()];
+        // Larger pictures are refused, so they need no buffers.
+        let held = if shape.width.max(shape.height) <= 4_096 { shape } else { Shape { width: 0, height: 0 } };
+        let plane = vec![0.0; held.len()];
         // Each cluster has a sample of its own with no other cluster's beside it, so there is at most one for every two samples.
-        let rows = vec![[0; 3]; most.len().div_ceil(2)];
-        let worklist = vec![0; worklist_len(most)];
+        let rows = vec![[0; 3]; held.len().div_ceil(2)];
+        let worklist = vec![0; worklist_len(held)];
         Saddles { shape, blurred: plane.clone(), response: plane, worklist, rows }
     }
 

@@ -11,8 +11,8 @@ use crate::Shape;
 /// them, and pixel (x, y) is byte `y * stride + x`. So there are `stride * (height - 1) + width` bytes. Filler may hold anything;
 /// it is never read, and never written.
 ///
-/// Every number may stand here. Where the sides, the stride and the number of bytes do not fit together, a side is above 4,096 or
-/// the stride above 8,192, the call that takes the picture is refused: [`Refusal::PlaneSize`](crate::Refusal::PlaneSize).
+/// Every number may stand here. Where a side is 0 or above 4,096, the stride is below the width or above 8,192, or there are not so
+/// many bytes, the call that takes the picture is refused: [`Refusal::PlaneSize`](crate::Refusal::PlaneSize).
 ///
 /// ```
 /// use muosleap::{Family, Picture, Print, Refusal};
@@ -49,7 +49,7 @@ impl<Bytes> Picture<Bytes> {
     /// ```
     /// use muosleap::Picture;
     ///
-    /// assert_eq!(Picture::packed(&[0; 6], 3, 2).stride, 3);
+    /// assert_eq!(Picture::packed(&[0u8; 6], 3, 2).stride, 3);
     /// ```
     pub const fn packed(bytes: Bytes, width: usize, height: usize) -> Picture<Bytes> {
         Picture { bytes, width, height, stride: width }

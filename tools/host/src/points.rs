@@ -11,7 +11,7 @@ pub struct Shape {
 }
 
 impl Shape {
-    /// How many samples a plane of these sides holds; the largest number there is, where that is too small to say it.
+    /// How many samples a plane of these sides holds; `usize::MAX` where the product is larger.
     pub const fn len(self) -> usize {
         self.width.saturating_mul(self.height)
     }

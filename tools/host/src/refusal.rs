@@ -3,7 +3,7 @@
 
 use std::{error::Error, fmt};
 
-/// Writes out a list of refusals, each with its number, its name, what is wrong (in document 01's words) and what to do.
+/// Writes out a list of refusals, each with its number, its name, what is wrong (in the papers' words) and what to do.
 macro_rules! refusals {
     ($($number:literal $name:ident: $wrong:literal, $to_do:literal;)*) => {
         /// Why a call was refused. A refused call has written nothing.

@@ -64,7 +64,7 @@ impl Sheet {
         if self.cell == 0 || outside(self.x, whole.width, width) || outside(self.y, whole.height, height) {
             return Err(Refusal::Painting);
         }
-        // The sheet is in the picture, so its numbers are small: nothing below can overflow.
+        // The sheet is in the picture, so its numbers are small, or it has no tag: nothing below can overflow.
         let tags = self.tags(family, words)?;
         let mut part = Part { bytes, stride };
         part.fill(self.x, self.y, whole, self.light);

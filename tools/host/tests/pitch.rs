@@ -32,35 +32,51 @@ impl Given {
         Given(pitch.wrapping_mul(height.wrapping_sub(1)).wrapping_add(width), width, height, pitch)
     }
 
-    /// What the six functions answer, in calls that are refused for other reasons where 1 lets the plane through. None changes
-    /// anything that it was lent.
-    fn answers(self) -> [u32; 6] {
-        let Given(length, width, height, pitch) = self;
-        let plane = vec![0xa5; length];
-        let mut lent = plane.clone();
-        let quad = [5_000.0; 8];
+    /// The plane, with a tag in its upper left corner as far as there are bytes, and the tag's quad.
+    fn plane(self) -> (Vec<u8>, [f32; 8]) {
+        let Given(length, .., pitch) = self;
+        let mut tag = Picture::packed([0; 81], 9, 9);
+        let print = Print { x: 0, y: 0, cell: 1, turn: 0, light: 200, dark: 20 };
+        let quad = Family::T16H5.paint_tag(&mut tag, 0x231B, &print).unwrap();
+        let mut plane = vec![0xa5; length];
+        for (y, line) in tag.lines().enumerate() {
+            let start = y.saturating_mul(pitch);
+            (start..length).zip(line).for_each(|(place, &pixel)| plane[place] = pixel);
+        }
+        (plane, quad.into())
+    }
+
+    /// What the six functions answer to a quad, the first `numbers` of its numbers as a list, and a print of this turn. All of
+    /// these calls are to be refused, and none to change anything that it was lent.
+    fn answers(self, plane: &[u8], quad: &[f32; 8], numbers: usize, print: u8) -> [u32; 6] {
+        let Given(_, width, height, pitch) = self;
+        let (mut lent, list) = (plane.to_vec(), &quad[..numbers]);
         let (mut id, mut turn, mut eight) = (77, 88, [0.5; 8]);
         let (mut rows, mut corners) = ([99; 3], [1.5; 8]);
         let codes = Family::T16H5.codes();
         let answers = [
-            c::try_decode_quad(&plane, width, height, pitch, 4, 2, 1, codes, &quad, &mut id, &mut turn, &mut eight),
-            c::try_decode_quad_in(&plane, width, height, pitch, 0, &quad, &mut id, &mut turn, &mut eight),
-            c::try_decode_quads(&plane, width, height, pitch, 4, 2, 1, codes, &quad[1..], &mut rows, &mut corners),
-            c::try_decode_quads_in(&plane, width, height, pitch, 0, &quad[1..], &mut rows, &mut corners),
-            c::paint_tag(&mut lent, width, height, pitch, 4, 2, 0x231B, 0, 0, 1, 4, 200, 20, &mut eight),
-            c::paint_tag_in(&mut lent, width, height, pitch, 0, 0x231B, 0, 0, 1, 4, 200, 20, &mut eight),
+            c::try_decode_quad(plane, width, height, pitch, 4, 2, 1, codes, quad, &mut id, &mut turn, &mut eight),
+            c::try_decode_quad_in(plane, width, height, pitch, 0, quad, &mut id, &mut turn, &mut eight),
+            c::try_decode_quads(plane, width, height, pitch, 4, 2, 1, codes, list, &mut rows, &mut corners),
+            c::try_decode_quads_in(plane, width, height, pitch, 0, list, &mut rows, &mut corners),
+            c::paint_tag(&mut lent, width, height, pitch, 4, 2, 0x231B, 0, 0, 1, print, 210, 20, &mut eight),
+            c::paint_tag_in(&mut lent, width, height, pitch, 0, 0x231B, 0, 0, 1, print, 210, 20, &mut eight),
         ];
         assert!(lent == plane, "{self:?}: a refused call painted");
         assert_eq!((id, turn, eight, rows, corners), (77, 88, [0.5; 8], [99; 3], [1.5; 8]), "{self:?}");
         answers
     }
 
+    /// The calls are good but for the plane's description.
     fn is_refused(self) {
-        assert_eq!(self.answers(), [1; 6], "{self:?}");
+        let (plane, quad) = self.plane();
+        assert_eq!(self.answers(&plane, &quad, 8, 0), [1; 6], "{self:?}");
     }
 
+    /// The calls are refused for what comes after 1: a quad outside, a list of seven numbers, a turn of 4.
     fn is_let_through(self) {
-        assert_eq!(self.answers(), [9, 9, 16, 16, 14, 14], "{self:?}");
+        let (plane, _) = self.plane();
+        assert_eq!(self.answers(&plane, &[5_000.0; 8], 7, 4), [9, 9, 16, 16, 14, 14], "{self:?}");
     }
 }
 

@@ -36,7 +36,7 @@ fn main() {
 #[cfg(original)]
 const HEAD: &str = "Written by `cargo run --release --bin bench` in tools/host, with ORIGINAL set. The original functions are built from \
 an unmodified copy of their files. Both sides are release builds for plain x86-64 and run in turns in one process on the same inputs; \
-before a row is measured, both sides' answers are held to be the same. A time is the median of 15 rounds of about 20 ms.";
+before a row is measured, both sides' answers are held to be the same, where both give one. A time is the median of 15 rounds of about 20 ms.";
 
 #[cfg(original)]
 const WORDS: &str = "T36H11, 587 codes of 6 × 6 bits. Time for one word.";
@@ -47,7 +47,7 @@ const QUADS: &str = "Tags of T36H11 on a picture of 1920 × 1080 with noise, at 
 Muosleap's readings include the corner tests and the places. In the row of `bit_code` the original also fetches the levels from the picture.";
 
 #[cfg(original)]
-const PADDED: &str = "A plane of 1920 × 1080 whose lines lie 2,048 bytes apart, with noise as filler, against the same plane without filler: \
+const PADDED: &str = "A plane of 1920 × 1080 whose lines begin 2,048 bytes after one another, with noise as filler where it is read, against the same plane without filler: \
 the quads and the print of the other tables, our side alone. The last column is below 1 where filler costs time.";
 
 #[cfg(original)]
