@@ -97,5 +97,8 @@ fn main() {
     replay_padded(padded::ZERO, b"packed planes again at pitch width + 1:\n");
     replay_padded(padded::FULL, b"packed planes again at pitch width + 13:\n");
     replay_padded(padded::NOISE, b"packed planes again at pitch 2 x width:\n");
-    replay_padded(padded::NEXT_LINE, b"packed planes again at pitch width + 7:\n");
+    replay_padded(
+        padded::NEXT_LINE,
+        b"packed planes again at pitch width + 7:\n",
+    );
 }
