@@ -32,7 +32,7 @@ pixel-cell print row column x y i j =
 
 -- ---- one pixel: it lies in the part that is drawn (a), in what is drawn next (b), and its cell is light (l)
 
--- what is drawn next lights nothing that is not light
+-- to draw a part and then the next is to draw both
 lit-twice : (a b l : Bool) (light old : ℕ)
     → cond b (cond l light (cond a (cond l light old) old)) (cond a (cond l light old) old) ≡ cond (a || b) (cond l light old) old
 lit-twice true true true light old = refl

@@ -80,7 +80,8 @@ fn replay_quads() {
     replay_file(QUADS, b"refusals");
 }
 
-// The files of pictures at a layout with filler, under a heading that gives the pitch.
+// The files of pictures at a layout with filler, under a heading that gives the pitch. What is not packed, or has no room so, is
+// replayed as it is and counted too.
 fn replay_padded(layout: u8, heading: &[u8]) {
     io::write_all(STDOUT_FILENO, heading);
     replay_at(layout, QUADS, b"readings");

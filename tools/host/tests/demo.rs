@@ -74,7 +74,7 @@ fn padded_lines_change_nothing() {
         (String::from_utf8(output.stdout).unwrap(), files.map(|file| fs::read(folder.join("out").join(file)).unwrap()))
     };
     let (packed, pictures) = run("packed", &[]);
-    assert!(packed.contains("Its lines lie 1920 bytes apart (pitch); 0 bytes between them are filler"), "{packed}");
+    assert!(packed.contains("Its lines begin 1920 bytes after one another (pitch); 0 bytes between them are filler"), "{packed}");
     // All but the line with the pitch, and the two with times.
     let told =
         |text: &str| text.lines().filter(|line| !line.contains("(pitch)") && !line.contains(" ms")).map(String::from).collect();
@@ -82,7 +82,7 @@ fn padded_lines_change_nothing() {
     assert_eq!(told_packed.len() + 3, packed.lines().count());
     for (pitch, filler) in [("1920", "0"), ("1921", "1079"), ("2048", "138112"), ("8192", "6767488")] {
         let (padded, pictures_padded) = run("padded", &["--pitch", pitch]);
-        let line = format!("Its lines lie {pitch} bytes apart (pitch); {filler} bytes between them are filler");
+        let line = format!("Its lines begin {pitch} bytes after one another (pitch); {filler} bytes between them are filler");
         assert!(padded.contains(&line), "{padded}");
         assert_eq!(told(&padded), told_packed);
         assert!(pictures_padded == pictures, "other pictures at a pitch of {pitch} bytes");

@@ -1,5 +1,5 @@
 -- The cell is turned, and tested. Assumes nothing.
-use mathlib.Core.Path.{_≡_, ap, _∙_}
+use mathlib.Core.Path.{ap, _∙_}
 use Rattle.painter.specs.Tag.{cellAt, turnedCell, isLight}
 use Prim.Native.Nat.{ℕ}
 use borrow.Author.Needs.{needs}

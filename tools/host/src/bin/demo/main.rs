@@ -84,7 +84,7 @@ fn print_summary(options: &Options, camera: &Camera, found: &Found) {
     let away = corners(&found.quads).into_iter().zip(corners(&camera.quads)).map(|(p, q)| distance(p, q)).fold(0.0, f32::max);
     println!("A sheet of {SIDE} x {SIDE} tags of {FAMILY:?} on a picture of {width} x {height} pixels, with noise of about");
     println!("{} levels. Tags {misprinted} have misprinted modules.", options.noise);
-    println!("Its lines lie {stride} bytes apart (pitch); {} bytes between them are filler.\n", camera.filler());
+    println!("Its lines begin {stride} bytes after one another (pitch); {} bytes between them are filler.\n", camera.filler());
     println!("Picture to clusters: {} clusters in {clustered:.1} ms (blur, response, threshold, clusters).", found.clusters);
     println!("Each tag's corners are the cluster centres nearest to where they were painted, at most {away:.2} pixel away.");
     println!("Quads to tags: {} quads in {read:.2} ms, each tag from all four starts.\n", found.rows.len());

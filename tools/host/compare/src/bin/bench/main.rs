@@ -47,7 +47,7 @@ const QUADS: &str = "Tags of T36H11 on a picture of 1920 × 1080 with noise, at 
 Muosleap's readings include the corner tests and the places. In the row of `bit_code` the original also fetches the levels from the picture.";
 
 #[cfg(original)]
-const PADDED: &str = "A plane of 1920 × 1080 whose lines begin 2,048 bytes after one another, with noise as filler where it is read, against the same plane without filler: \
+const PADDED: &str = "A plane of 1920 × 1080 whose lines begin 2,048 bytes after one another, (noise as filler in the plane that is read), against the same plane without filler: \
 the quads and the print of the other tables, our side alone. The last column is below 1 where filler costs time.";
 
 #[cfg(original)]
