@@ -44,24 +44,10 @@ pub fn paint_tag(
     word: u64,
     print: &Print,
 ) -> Result<Quad, Refusal> {
-    let Print { x, y, cell, turn, light, dark } = *print;
+    let &mut Picture { ref mut bytes, width, height, stride } = picture;
+    let (bytes, Print { x, y, cell, turn, light, dark }) = (bytes.as_mut(), *print);
     let mut quad = [0.0; 8];
-    accepted(c::paint_tag(
-        picture.bytes.as_mut(),
-        picture.width,
-        picture.height,
-        picture.stride,
-        edge,
-        border,
-        word,
-        x,
-        y,
-        cell,
-        turn,
-        light,
-        dark,
-        &mut quad,
-    ))?;
+    accepted(c::paint_tag(bytes, width, height, stride, edge, border, word, x, y, cell, turn, light, dark, &mut quad))?;
     Ok(quad.into())
 }
 
@@ -69,23 +55,10 @@ impl Family {
     /// Fills the picture with light and paints a tag of this family; filler stays as it was. Answers the tag's outer corners,
     /// clockwise from the print's first. Refusals 1, 14.
     pub fn paint_tag(self, picture: &mut Picture<impl AsMut<[u8]>>, word: u64, print: &Print) -> Result<Quad, Refusal> {
-        let Print { x, y, cell, turn, light, dark } = *print;
+        let &mut Picture { ref mut bytes, width, height, stride } = picture;
+        let (bytes, number, Print { x, y, cell, turn, light, dark }) = (bytes.as_mut(), self.number(), *print);
         let mut quad = [0.0; 8];
-        accepted(c::paint_tag_in(
-            picture.bytes.as_mut(),
-            picture.width,
-            picture.height,
-            picture.stride,
-            self.number(),
-            word,
-            x,
-            y,
-            cell,
-            turn,
-            light,
-            dark,
-            &mut quad,
-        ))?;
+        accepted(c::paint_tag_in(bytes, width, height, stride, number, word, x, y, cell, turn, light, dark, &mut quad))?;
         Ok(quad.into())
     }
 }
