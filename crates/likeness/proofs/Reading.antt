@@ -1,5 +1,6 @@
 -- Demand 3 on words: with a table that passes the likeness check, at most one code is near a word, in one turn.
--- So a word near a code, in any turn of it, is read as that code at that turn, and the four turns of any word are read alike.
+-- So a word near a code, in any turn of it, is read as that code at that turn, with as many differing modules as tell them apart, and the four
+-- turns of any word are read alike.
 -- Assumes nothing.
 use mathlib.Core.Path.{_≡_, refl, sym, ap, ap₂, _∙_, subst}
 use mathlib.Core.Bool.{Bool, true, false}
@@ -43,14 +44,15 @@ module _ (e t : ℕ) (codes : List ℕ) (table : Codes e t codes) (far : Unlike 
       let f : 2 * t - 1 ≤ differing (turns e q x) y = far .far i j q 0 hi hj hq (zero-lt-suc 3) ne in
       omega arith
 
-  -- the word is near code id: that code is found at once
-  at-once : (w id : ℕ) → Square w → id < length codes → differing w (getD codes id 0) < t → (fewest w codes < t) × (firstAt w (fewest w codes) codes ≡ id)
+  -- the word is near code id: that code is found at once, and its distance is the fewest
+  at-once : (w id : ℕ) → Square w → id < length codes → differing w (getD codes id 0) < t → (fewest w codes < t) × (firstAt w (fewest w codes) codes ≡ id) × (fewest w codes ≡ differing w (getD codes id 0))
   unfolding turns
   at-once w id hw hid h =
       let less : fewest w codes < t = omega (arith, fewest-le w codes id hid) in
       let f = fewest-first w codes (omega (arith, table .near .most)) in
       let at = firstAt w (fewest w codes) codes in
-      (less, same at (f .inside) (omega (arith, f .amount)) (ℕ-discrete at id))
+      let is = same at (f .inside) (omega (arith, f .amount)) (ℕ-discrete at id) in
+      (less, is, sym (f .amount) ∙ ap (λ (k : ℕ). differing w (getD codes k 0)) is)
     where
       same : (k : ℕ) → k < length codes → differing w (getD codes k 0) < t → Dec (k ≡ id) → k ≡ id
       same k hk n (yes p) = p
@@ -67,21 +69,26 @@ module _ (e t : ℕ) (codes : List ℕ) (table : Codes e t codes) (far : Unlike 
           let f = fewest-first w codes (omega (arith, table .near .most)) in
           absurd (clash (suc q) w (firstAt w (fewest w codes) codes) id hq hw (f .inside) hid (λ p z. omega arith) (omega (arith, f .amount)) h)
 
+  -- code id, seen at turn k of a word that has been turned into v
+  abbrev own : ℕ → ℕ → ℕ → Outcome Seen
+  own id k v = accepted (record { id = id; turn = k; differing = differing v (getD codes id 0) })
+
   reads : (n r q w id : ℕ) → q < n → n ≤ 4 → Square w → id < length codes → differing (turns e q w) (getD codes id 0) < t
-      → searchFrom t codes e n r w ≡ accepted (record { id = id; turn = r + q })
+      → searchFrom t codes e n r w ≡ own id (r + q) (turns e q w)
   unfolding turns
   reads zero r q w id hq hn hw hid h = absurd (not-suc-le-zero hq)
   reads (suc n) r zero w id hq hn hw hid h =
       let f = at-once w id hw hid h in
-      hit t codes e n r w (f .0) ∙ ap₂ (λ (i k : ℕ). accepted (record { id = i; turn = k })) (f .1) (sym (add-zero r))
+      hit t codes e n r w (f .0) ∙ λ j. accepted (record { id = f .1 j; turn = sym (add-zero r) j; differing = f .2 j })
   reads (suc n) r (suc q) w id hq hn hw hid h =
       miss t codes e n r w (not-yet q w id (omega arith) hw hid h)
       ∙ reads n (suc r) q (turn e w) id (omega arith) (omega arith) (turn-lt e w) hid h
-      ∙ ap (λ (k : ℕ). accepted (record { id = id; turn = k })) (omega arith)
+      ∙ ap (λ (k : ℕ). own id k (turns e q (turn e w))) (omega arith)
 
-  -- a word that is near code id after q turns is read as that code at that turn
-  pub near-read : (w q id : ℕ) → Square w → q < 4 → id < length codes → differing (turns e q w) (getD codes id 0) < t → search w t codes e ≡ accepted (record { id = id; turn = q })
-  near-read w q id hw hq hid h = reads 4 0 q w id hq (le-refl 4) hw hid h ∙ ap (λ (k : ℕ). accepted (record { id = id; turn = k })) (zero-add q)
+  -- a word that is near code id after q turns is read as that code at that turn, with the bits in which they differ
+  pub near-read : (w q id : ℕ) → Square w → q < 4 → id < length codes → differing (turns e q w) (getD codes id 0) < t
+      → search w t codes e ≡ accepted (record { id = id; turn = q; differing = differing (turns e q w) (getD codes id 0) })
+  near-read w q id hw hq hid h = reads 4 0 q w id hq (le-refl 4) hw hid h ∙ ap (λ (k : ℕ). own id k (turns e q w)) (zero-add q)
 
   -- no code is near in four turns: the word is not read
   far-unread : (n r w : ℕ) → ((p : ℕ) → p < n → (k : ℕ) → k < length codes → t ≤ differing (turns e p w) (getD codes k 0)) → searchFrom t codes e n r w ≡ refused 13
@@ -118,16 +125,18 @@ module _ (e t : ℕ) (codes : List ℕ) (table : Codes e t codes) (far : Unlike 
           let m : s + p ≡ (s + p) % 4 = omega arith in
           ap (λ (n : ℕ). turns e n w) m
 
-  -- Whatever the word, its four turns are read alike: the same code, or none.
+  -- Whatever the word, its four turns are read alike: the same code with as many differing modules, or none.
   pub turned-read : (s w : ℕ) → s < 4 → Square w → search (turns e s w) t codes e ≡ seenFrom s (search w t codes e)
   turned-read s w hs hw = go (search w t codes e) (search-means t codes e (omega (arith, table .near .most)) w)
     where
       go : (o : Outcome Seen) → Means t codes e 4 0 w o → search (turns e s w) t codes e ≡ seenFrom s o
       go (accepted seen) m =
           let q : seen .turn ≡ m .q = m .turned ∙ zero-add (m .q) in
+          let back = reached s (m .q) w hs (m .in-time) hw in
+          let d = ap (λ (x : ℕ). differing x (getD codes (seen .id) 0)) back ∙ sym (m .counted) in
           near-read (turns e s w) (turnLess s (m .q)) (seen .id) (turns-lt e s w hw) (omega arith) (m .code .inside)
-          (subst (λ (x : ℕ). differing x (getD codes (seen .id) 0) < t) (sym (reached s (m .q) w hs (m .in-time) hw)) (m .code .near))
-          ∙ ap (λ (k : ℕ). accepted (record { id = seen .id; turn = turnLess s k })) (sym q)
+          (subst (λ (x : ℕ). differing x (getD codes (seen .id) 0) < t) (sym back) (m .code .near))
+          ∙ ap₂ (λ (k x : ℕ). accepted (record { id = seen .id; turn = turnLess s k; differing = x })) (sym q) d
       go (refused n) m =
           far-unread 4 0 (turns e s w) (λ p hp k hk.
           subst (λ (x : ℕ). t ≤ differing x (getD codes k 0)) (sym (again s p w hs hp hw)) (m .none ((s + p) % 4) (omega arith) k hk))

@@ -1,4 +1,5 @@
--- A list reading, from 01's "Quad to tag" and refusal 16. Assumes nothing.
+-- A list reading, from 01's "Quad to tag" and refusal 16, with 02's ticket 2: "a list row becomes four numbers .., and 16 measures by that".
+-- Assumes nothing.
 use Prim.Native.Nat.{ℕ, _*_, _/_, _%_}
 use mathlib.Core.Bool.{Bool, not, _||_}
 use mathlib.Core.List.{List, [], _∷_, _++_, flatMap}
@@ -14,7 +15,7 @@ use Rattle.reader.specs.Reading.{Tag, reading}
 
 -- the numbers of a row, and the most quads of a list
 abbrev pub rowSize : ℕ
-rowSize = 3
+rowSize = 4
 
 abbrev pub mostQuads : ℕ
 mostQuads = 1024
@@ -24,17 +25,17 @@ abbrev pub quadCount : ℕ → ℕ
 quadCount numbers = numbers / quadSize
 
 -- refusal 16, of the lengths of the quad list and the two outputs: "quad list not a multiple of 8 numbers or above 1,024 quads,
--- or an output shorter than three numbers and eight corner numbers a quad"
+-- or an output shorter than" a row's "numbers and eight corner numbers a quad"
 unfoldable pub badList : ℕ → ℕ → ℕ → Bool
 badList quads rows corners =
     not (eqb (quads % quadSize) 0) || (ltb mostQuads (quadCount quads)
     || (ltb rows (rowSize * quadCount quads) || ltb corners (quadSize * quadCount quads)))
 
--- "a row: refusal or 0, id, turn", and "beside it eight corner numbers". "Rows of refused quads and their corner numbers are zero in
--- every bit but for the number."
+-- "a list row becomes four numbers, refusal, id, turn, differing modules" (the refusal 0 where there is none), and "beside it eight corner
+-- numbers". "Rows of refused quads and their corner numbers are zero in every bit but for the number."
 abbrev pub rowOf : Outcome Tag → List ℕ
-rowOf (accepted tag) = 0 ∷ tag .id ∷ tag .turn ∷ []
-rowOf (refused n) = n ∷ 0 ∷ 0 ∷ []
+rowOf (accepted tag) = 0 ∷ tag .id ∷ tag .turn ∷ tag .differing ∷ []
+rowOf (refused n) = n ∷ 0 ∷ 0 ∷ 0 ∷ []
 
 abbrev pub cornersOf : Outcome Tag → List Float
 cornersOf (accepted tag) = numbersOf (tag .corners)

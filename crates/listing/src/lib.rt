@@ -8,6 +8,7 @@ use tables::Family;
 use tag_families::codes::CODES;
 ghost use mathlib.Core.Path.{_≡_};
 ghost use mathlib.Core.Bool.{false};
+ghost use mathlib.Core.List.{[], _∷_};
 ghost use Prim.Native.Nat.{_+_, _*_, _≤_, _<_};
 ghost use lib.ListN.{length};
 ghost use lib.Seq.{sets};
@@ -20,7 +21,7 @@ ghost use Rattle.points.specs.Numbers.{quadSize};
 ghost use Rattle.listing.specs.Listing.{rowSize, badList, rowOf, cornersOf, listingOf, listing};
 
 // The numbers of a row, and the most quads of a list.
-pub const ROW_SIZE: usize = 3;
+pub const ROW_SIZE: usize = 4;
 
 const MOST_QUADS: usize = 1024;
 
@@ -41,27 +42,31 @@ pub fn bad_list(quads: usize, rows: usize, corners: usize) -> bool
     corners < QUAD_SIZE * count
 }
 
+// The four numbers of row q.
+fn put_numbers(rows: &mut [u64], q: usize, refusal: u8, id: usize, turn: u8, differing: u8)
+    requires { ⌜ rowSize * q + rowSize ≤ length (now rows) ⌝ }
+    ensures { λ _. ⌜ now (rows .exit) ≡ sets (now (rows .entry)) (rowSize * q) (refusal ∷ id ∷ turn ∷ differing ∷ []) ⌝ }
+{
+    let at = ROW_SIZE * q;
+    rows[at] = refusal as u64;
+    rows[at + 1] = id as u64;
+    rows[at + 2] = turn as u64;
+    rows[at + 3] = differing as u64;
+}
+
 // The row of a quad's reading.
 fn put_row(rows: &mut [u64], q: usize, reading: Reading)
     requires { ⌜ rowSize * q + rowSize ≤ length (now rows) ⌝ }
     ensures { λ _. ⌜ now (rows .exit) ≡ sets (now (rows .entry)) (rowSize * q) (rowOf (paperReading reading)) ⌝ }
 {
-    let at = ROW_SIZE * q;
     match reading {
         Reading::Tag {
             id,
             turn,
+            differing,
             corners: _,
-        } => {
-            rows[at] = 0;
-            rows[at + 1] = id as u64;
-            rows[at + 2] = turn as u64;
-        }
-        Reading::Refused(n) => {
-            rows[at] = n as u64;
-            rows[at + 1] = 0;
-            rows[at + 2] = 0;
-        }
+        } => put_numbers(rows, q, 0, id, turn, differing),
+        Reading::Refused(n) => put_numbers(rows, q, n, 0, 0, 0),
     }
 }
 
@@ -74,6 +79,7 @@ fn put_corners(corners: &mut [f32], q: usize, reading: Reading)
         Reading::Tag {
             id: _,
             turn: _,
+            differing: _,
             corners: quad,
         } => points::put_quad(corners, q, quad),
         Reading::Refused(_) => {

@@ -43,16 +43,17 @@ unfolding tabulate
 levelsOf plane frame family axes =
     tabulate (samples family) (λ k. levelAt plane frame (column axes family k) (row axes family k))
 
--- "The answer is a tag with its corners as floats"
+-- "The answer is a tag with its corners as floats"; "the number of differing modules .., and the quad reader and the list reader pass it on"
 pub record Tag : Type 0 where
   pub id : ℕ
   pub turn : ℕ
+  pub differing : ℕ
   pub corners : Quad
 
 -- what the search sees, with "the quad turned left by the turn, then reversed"
 abbrev pub withCorners : Quad → Outcome Seen → Outcome Tag
 withCorners quad (accepted seen) =
-    accepted (record { id = seen .id; turn = seen .turn; corners = answerCorners quad (seen .turn) })
+    accepted (record { id = seen .id; turn = seen .turn; differing = seen .differing; corners = answerCorners quad (seen .turn) })
 withCorners quad (refused n) = refused n
 
 -- what the word of the levels shows

@@ -18,7 +18,12 @@ ghost use Rattle.reader.specs.Answer.{paperReading};
 ghost use Rattle.reader.specs.Sampling.{Readable, SmallAxes, sampleOf, Sampled};
 
 pub enum Reading {
-    Tag { id: usize, turn: u8, corners: Quad },
+    Tag {
+        id: usize,
+        turn: u8,
+        differing: u8,
+        corners: Quad,
+    },
     Refused(u8),
 }
 
@@ -75,9 +80,10 @@ fn tag_of(bits: u64, family: Family, codes: &[u64], quad: Quad) -> Reading
     ensures { λ r. ⌜ paperReading r ≡ tagOf family (now (codes .entry)) quad (accepted bits) ⌝ }
 {
     match search::best_tag(bits, family.hamming_distance, codes, family.edge) {
-        Found::Tag { id, turn } => Reading::Tag {
+        Found::Tag { id, turn, differing } => Reading::Tag {
             id,
             turn,
+            differing,
             corners: points::answer_corners(quad, turn),
         },
         Found::Refused(n) => Reading::Refused(n),

@@ -17,16 +17,16 @@ use Rattle.search.proofs.Closest.{First, fewest-le, fewest-first}
 module _ (threshold : ℕ) (codes : List ℕ) (edge : ℕ) where
   -- one turn begun: it answers
   pub hit : (n r w : ℕ) → fewest w codes < threshold
-      → searchFrom threshold codes edge (suc n) r w ≡ accepted (record { id = firstAt w (fewest w codes) codes; turn = r })
+      → searchFrom threshold codes edge (suc n) r w ≡ accepted (record { id = firstAt w (fewest w codes) codes; turn = r; differing = fewest w codes })
   unfolding searchFrom
   hit n r w h =
-      ap (λ (t : Bool). cond t (accepted (record { id = firstAt w (fewest w codes) codes; turn = r })) (searchFrom threshold codes edge n (suc r) (turn edge w))) (lt-ltb (fewest w codes) threshold h)
+      ap (λ (t : Bool). cond t (accepted (record { id = firstAt w (fewest w codes) codes; turn = r; differing = fewest w codes })) (searchFrom threshold codes edge n (suc r) (turn edge w))) (lt-ltb (fewest w codes) threshold h)
 
   -- or the next turn does
   pub miss : (n r w : ℕ) → threshold ≤ fewest w codes → searchFrom threshold codes edge (suc n) r w ≡ searchFrom threshold codes edge n (suc r) (turn edge w)
   unfolding searchFrom
   miss n r w h =
-      ap (λ (t : Bool). cond t (accepted (record { id = firstAt w (fewest w codes) codes; turn = r })) (searchFrom threshold codes edge n (suc r) (turn edge w))) (le-ltb (fewest w codes) threshold h)
+      ap (λ (t : Bool). cond t (accepted (record { id = firstAt w (fewest w codes) codes; turn = r; differing = fewest w codes })) (searchFrom threshold codes edge n (suc r) (turn edge w))) (le-ltb (fewest w codes) threshold h)
 
   pub none-left : (r w : ℕ) → searchFrom threshold codes edge 0 r w ≡ refused 13
   unfolding searchFrom
@@ -61,12 +61,13 @@ module _ (threshold : ℕ) (codes : List ℕ) (edge : ℕ) where
 
 -- ---- what an outcome of the search means
 
--- the first of n turns of w in which a code is near, counted from r, and the code that is nearest in it
+-- the first of n turns of w in which a code is near, counted from r, the code that is nearest in it, and how near it is
 pub record Answers (threshold : ℕ) (codes : List ℕ) (edge n r w : ℕ) (s : Seen) : Type 0 where
   pub q : ℕ
   pub turned : s .turn ≡ r + q
   pub in-time : q < n
   pub code : Near threshold codes edge (turns edge q w) (s .id)
+  pub counted : s .differing ≡ differing (turns edge q w) (getD codes (s .id) 0)
   pub none-before : (p : ℕ) → p < q → Far threshold codes edge (turns edge p w)
 
 -- no code is near in n turns of w, and the number is 13
@@ -92,17 +93,19 @@ module _ (threshold : ℕ) (codes : List ℕ) (edge : ℕ) (fits : threshold ≤
     turned = omega (arith, m .turned);
     in-time = suc-le-suc (m .in-time);
     code = m .code;
+    counted = m .counted;
     none-before = also-before (m .q) w (Far threshold codes edge) f (m .none-before);
   }
   later n r w (refused k) f m = record { thirteen = m .thirteen; none = also-before n w (Far threshold codes edge) f (m .none) }
 
-  now-found : (n r w : ℕ) → fewest w codes < threshold → Answers threshold codes edge (suc n) r w (record { id = firstAt w (fewest w codes) codes; turn = r })
+  now-found : (n r w : ℕ) → fewest w codes < threshold → Answers threshold codes edge (suc n) r w (record { id = firstAt w (fewest w codes) codes; turn = r; differing = fewest w codes })
   unfolding turns
   now-found n r w h = record {
     q = 0;
     turned = sym (add-zero r);
     in-time = zero-lt-suc n;
     code = near threshold codes edge w fits h;
+    counted = sym (fewest-first w codes (omega arith) .amount);
     none-before = λ p l. absurd (not-suc-le-zero l);
   }
 
@@ -119,7 +122,7 @@ module _ (threshold : ℕ) (codes : List ℕ) (edge : ℕ) (fits : threshold ≤
           let h = ltb-false (fewest w codes) threshold e in
           subst (Means threshold codes edge (suc n) r w) (sym (miss threshold codes edge n r w h)) (later n r w (searchFrom threshold codes edge n (suc r) (turn edge w)) (far threshold codes edge w h) rest)
 
-  -- An answer is the first of turns 0 to 3 in which some code differs in fewer bits than the threshold; no code differs in fewer in that turn,
-  -- and none before it in as few. Refusal 13 says that there is none in four turns.
+  -- An answer is the first of turns 0 to 3 in which some code differs in fewer bits than the threshold; it says in how many, no code differs in
+  -- fewer in that turn, and none before it in as few. Refusal 13 says that there is none in four turns.
   pub search-means : (w : ℕ) → Means threshold codes edge 4 0 w (search w threshold codes edge)
   search-means w = from-means 4 0 w

@@ -1,4 +1,4 @@
--- The search for id and turn, from 01's "Id and turn". Assumes nothing.
+-- The search for id and turn, from 01's "Id and turn", and for the number of differing modules, from 02's ticket 2. Assumes nothing.
 use Prim.Native.Nat.{ℕ, zero, suc, min}
 use mathlib.Core.Bool.{cond}
 use mathlib.Core.List.{List, [], _∷_}
@@ -20,10 +20,12 @@ firstAt w d (code ∷ codes) =
     let later = suc (firstAt w d codes) in
     cond (eqb (differing w code) d) 0 later
 
--- a code's position, and the turn at which it was found
+-- a code's position, the turn at which it was found, and "beside id and turn, the number of differing modules (the fewest that answered, bits
+-- above the square included)"
 pub record Seen : Type 0 where
   pub id : ℕ
   pub turn : ℕ
+  pub differing : ℕ
 
 -- n turns are left, and w has been turned r times: "The first turn whose fewest is below the match threshold answers."
 unfoldable pub searchFrom : ℕ → List ℕ → ℕ → ℕ → ℕ → ℕ → Outcome Seen
@@ -32,7 +34,7 @@ searchFrom threshold codes edge zero r w = refused 13
 searchFrom threshold codes edge (suc n) r w =
     let rest = searchFrom threshold codes edge n (suc r) (turn edge w) in
     let d = fewest w codes in
-    cond (ltb d threshold) (accepted (record { id = firstAt w d codes; turn = r })) rest
+    cond (ltb d threshold) (accepted (record { id = firstAt w d codes; turn = r; differing = d })) rest
 
 -- "The search takes turns 0 to 3 of the seen word."
 abbrev pub search : ℕ → ℕ → List ℕ → ℕ → Outcome Seen

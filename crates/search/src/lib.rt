@@ -11,7 +11,7 @@ pub struct Best {
 }
 
 pub enum Found {
-    Tag { id: usize, turn: u8 },
+    Tag { id: usize, turn: u8, differing: u8 },
     Refused(u8),
 }
 
@@ -78,7 +78,7 @@ fn nearest(bits: u64, codes: &[u64]) -> Best
     Best { id, differing }
 }
 
-// The first of the four turns whose fewest differing bits are below the match threshold answers.
+// The first of the four turns whose fewest differing bits are below the match threshold answers, and says how many they are.
 pub fn best_tag(bits: u64, hamming_distance: u8, codes: &[u64], edge: u8) -> Found
     requires { ⌜ (0 < edge) × (edge ≤ 8) ⌝ }
     ensures { λ r. ⌜ paperFound r ≡ search bits «hamming_distance» (now (codes .entry)) edge ⌝ }
@@ -89,7 +89,7 @@ pub fn best_tag(bits: u64, hamming_distance: u8, codes: &[u64], edge: u8) -> Fou
         let best = nearest(seen, codes);
         let differing = best.differing;
         if differing < hamming_distance {
-            return Found::Tag { id: best.id, turn };
+            return Found::Tag { id: best.id, turn, differing };
         }
         seen = word::rotate_bits(seen, edge);
         turn += 1;

@@ -14,7 +14,7 @@ returns c =
     let i = c .before .before in
     let k = i .before .before in
     let a = k .before .before .args in
-    ap (λ (q : Quad). accepted (record { id = i .id .given .0 .0; turn = i .id .given .0 .1 .0; corners = q })) (c .answer-corners .ensures)
+    ap (λ (q : Quad). accepted (record { id = i .id .given .0 .0; turn = i .id .given .0 .1 .0; differing = i .id .given .0 .1 .1 .0; corners = q })) (c .answer-corners .ensures)
     ∙ ap (withCorners (a .quad)) (sym (ap paperFound (i .id .given .1)) ∙ k .best-tag .ensures)
 
 returns-2 : tie.Need-returns-2

@@ -19,9 +19,9 @@ module _ (t : ℕ) (codes : List ℕ) (edge r w : ℕ) (more : r < 4) (b : Best)
   left : 4 - r ≡ suc (4 - (r + 1))
   left = omega arith
 
-  found : b .differing < t → accepted (record { id = b .id; turn = r }) ≡ searchFrom t codes edge (4 - r) r w
+  found : b .differing < t → accepted (record { id = b .id; turn = r; differing = b .differing }) ≡ searchFrom t codes edge (4 - r) r w
   found h =
-      ap (λ (id : ℕ). accepted (record { id = id; turn = r })) (e .1) ∙ sym (hit t codes edge (4 - (r + 1)) r w (omega (arith, e .0)))
+      ap₂ (λ (id d : ℕ). accepted (record { id = id; turn = r; differing = d })) (e .1) (e .0) ∙ sym (hit t codes edge (4 - (r + 1)) r w (omega (arith, e .0)))
       ∙ ap (λ (n : ℕ). searchFrom t codes edge n r w) (sym left)
 
   next : (v : ℕ) → t ≤ b .differing → v ≡ turn edge w → searchFrom t codes edge (4 - (r + 1)) (r + 1) v ≡ searchFrom t codes edge (4 - r) r w
