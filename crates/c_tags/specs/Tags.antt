@@ -12,17 +12,19 @@ use Rattle.listing.specs.Listing.{Listing}
 use Rattle.muosleap.specs.PaintTag.{Painting}
 use Rattle.outputs.specs.Outputs.{Output, Written}
 
--- a code's search: the code's number and the turn
-pub record FindsTag (found : Outcome Seen) (r : ℕ) (id turn : Output ℕ) : Type 0 where
+-- a code's search: the code's number, the turn and the number of differing modules
+pub record FindsTag (found : Outcome Seen) (r : ℕ) (id turn differing : Output ℕ) : Type 0 where
   pub answered : r ≡ number found
   pub id-written : Written found (λ (s : Seen). s .id) id
   pub turn-written : Written found (λ (s : Seen). s .turn) turn
+  pub differing-written : Written found (λ (s : Seen). s .differing) differing
 
--- a quad's reading: the tag's number, its turn and its corners
-pub record ReadsTag (read : Outcome Tag) (r : ℕ) (id turn : Output ℕ) (corners : Output (List Float)) : Type 0 where
+-- a quad's reading: the tag's number, its turn, its number of differing modules and its corners
+pub record ReadsTag (read : Outcome Tag) (r : ℕ) (id turn differing : Output ℕ) (corners : Output (List Float)) : Type 0 where
   pub answered : r ≡ number read
   pub id-written : Written read (λ (t : Tag). t .id) id
   pub turn-written : Written read (λ (t : Tag). t .turn) turn
+  pub differing-written : Written read (λ (t : Tag). t .differing) differing
   pub corners-written : Written read (λ (t : Tag). numbersOf (t .corners)) corners
 
 -- a list's reading: rows and corners

@@ -31,13 +31,19 @@ pub fn best_tag(
     edge: u8,
     id: &mut usize,
     turn: &mut u8,
+    differing: &mut u8,
 ) -> u32
-    ensures { λ r. ⌜ FindsTag (bestTag bits «hamming_distance» (now (codes .entry)) edge) r (held id) (held turn) ⌝ }
+    ensures { λ r. ⌜ FindsTag (bestTag bits «hamming_distance» (now (codes .entry)) edge) r (held id) (held turn) (held differing) ⌝ }
 {
     match muosleap::detector::best_tag(bits, hamming_distance, codes, edge) {
-        Found::Tag { id: i, turn: t } => {
+        Found::Tag {
+            id: i,
+            turn: t,
+            differing: d,
+        } => {
             *id = i;
             *turn = t;
+            *differing = d;
             0
         }
         Found::Refused(n) => n as u32,

@@ -16,17 +16,25 @@ ghost use Rattle.outputs.specs.Outputs.{Gives, held};
 ghost use Rattle.c_tags.specs.Tags.{ReadsTag, ReadsTags, PaintsTag};
 
 // A reading's outputs.
-fn put_tag(read: Reading, id: &mut usize, turn: &mut u8, corners: &mut [f32; 8]) -> u32
-    ensures { λ r. ⌜ ReadsTag (paperReading read) r (held id) (held turn) (held corners) ⌝ }
+fn put_tag(
+    read: Reading,
+    id: &mut usize,
+    turn: &mut u8,
+    differing: &mut u8,
+    corners: &mut [f32; 8],
+) -> u32
+    ensures { λ r. ⌜ ReadsTag (paperReading read) r (held id) (held turn) (held differing) (held corners) ⌝ }
 {
     match read {
         Reading::Tag {
             id: i,
             turn: t,
+            differing: d,
             corners: c,
         } => {
             *id = i;
             *turn = t;
+            *differing = d;
             points::put_quad(corners, 0, c);
             0
         }
@@ -42,13 +50,14 @@ pub fn try_decode_quad(
     quad: &[f32; 8],
     id: &mut usize,
     turn: &mut u8,
+    differing: &mut u8,
     corners: &mut [f32; 8],
 ) -> u32
-    ensures { λ r. ⌜ ReadsTag (decodeQuad (now (plane .entry)) frame family (now (codes .entry)) (quadAt (now (quad .entry)) 0)) r (held id) (held turn) (held corners) ⌝ }
+    ensures { λ r. ⌜ ReadsTag (decodeQuad (now (plane .entry)) frame family (now (codes .entry)) (quadAt (now (quad .entry)) 0)) r (held id) (held turn) (held differing) (held corners) ⌝ }
 {
     let lent = points::quad_at(quad, 0);
     let read = muosleap::detector::try_decode_quad(plane, frame, family, codes, lent);
-    put_tag(read, id, turn, corners)
+    put_tag(read, id, turn, differing, corners)
 }
 
 pub fn try_decode_quad_in(
@@ -58,13 +67,14 @@ pub fn try_decode_quad_in(
     quad: &[f32; 8],
     id: &mut usize,
     turn: &mut u8,
+    differing: &mut u8,
     corners: &mut [f32; 8],
 ) -> u32
-    ensures { λ r. ⌜ ReadsTag (decodeQuadIn (now (plane .entry)) frame family (quadAt (now (quad .entry)) 0)) r (held id) (held turn) (held corners) ⌝ }
+    ensures { λ r. ⌜ ReadsTag (decodeQuadIn (now (plane .entry)) frame family (quadAt (now (quad .entry)) 0)) r (held id) (held turn) (held differing) (held corners) ⌝ }
 {
     let lent = points::quad_at(quad, 0);
     let read = muosleap::detector::try_decode_quad_in(plane, frame, family, lent);
-    put_tag(read, id, turn, corners)
+    put_tag(read, id, turn, differing, corners)
 }
 
 // A list's answer.

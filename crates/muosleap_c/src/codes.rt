@@ -24,10 +24,11 @@ pub extern "C" fn muosleap_best_tag(
     edge: u8,
     id: &mut usize,
     turn: &mut u8,
+    differing: &mut u8,
 ) -> u32
-    ensures { λ r. ⌜ FindsTag (bestTag bits «hamming_distance» (now (codes .entry)) edge) r (held id) (held turn) ⌝ }
+    ensures { λ r. ⌜ FindsTag (bestTag bits «hamming_distance» (now (codes .entry)) edge) r (held id) (held turn) (held differing) ⌝ }
 {
-    c_tags::codes::best_tag(bits, hamming_distance, codes, edge, id, turn)
+    c_tags::codes::best_tag(bits, hamming_distance, codes, edge, id, turn, differing)
 }
 
 #[no_mangle]

@@ -23,11 +23,12 @@ pub extern "C" fn muosleap_try_decode_quad(
     quad: &[f32; 8],
     id: &mut usize,
     turn: &mut u8,
+    differing: &mut u8,
     corners: &mut [f32; 8],
 ) -> u32
     ensures { λ r. ⌜ ReadsTag
         (decodeQuad (now (plane .entry)) (frameOf width height pitch) (tableOf edge border «hamming_distance») (now (codes .entry)) (quadAt (now (quad .entry)) 0))
-        r (held id) (held turn) (held corners) ⌝ }
+        r (held id) (held turn) (held differing) (held corners) ⌝ }
 {
     let family = Family {
         edge,
@@ -39,7 +40,7 @@ pub extern "C" fn muosleap_try_decode_quad(
         height,
         pitch,
     };
-    c_tags::quads::try_decode_quad(plane, frame, family, codes, quad, id, turn, corners)
+    c_tags::quads::try_decode_quad(plane, frame, family, codes, quad, id, turn, differing, corners)
 }
 
 #[no_mangle]
@@ -52,17 +53,18 @@ pub extern "C" fn muosleap_try_decode_quad_in(
     quad: &[f32; 8],
     id: &mut usize,
     turn: &mut u8,
+    differing: &mut u8,
     corners: &mut [f32; 8],
 ) -> u32
     ensures { λ r. ⌜ ReadsTag (decodeQuadIn (now (plane .entry)) (frameOf width height pitch) family (quadAt (now (quad .entry)) 0))
-        r (held id) (held turn) (held corners) ⌝ }
+        r (held id) (held turn) (held differing) (held corners) ⌝ }
 {
     let frame = Frame {
         width,
         height,
         pitch,
     };
-    c_tags::quads::try_decode_quad_in(plane, frame, family, quad, id, turn, corners)
+    c_tags::quads::try_decode_quad_in(plane, frame, family, quad, id, turn, differing, corners)
 }
 
 #[no_mangle]

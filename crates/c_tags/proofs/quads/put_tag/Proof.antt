@@ -11,7 +11,10 @@ returns : tie.Need-returns
 returns c =
     let eight : length (now (c .before .before .before .before .before .args .corners)) ≡ 8 = search needs in
     rw (c .before .before .before .read .given .1)
-    record { answered = refl; id-written = refl; turn-written = refl; corners-written = c .put-quad .ensures ∙ filled _ (now (c .before .before .before .before .before .args .corners)) eight }
+    record { answered = refl; id-written = refl; turn-written = refl; differing-written = refl; corners-written = c .put-quad .ensures ∙ filled _ (now (c .before .before .before .before .before .args .corners)) eight }
+
+returns-2 : tie.Need-returns-2
+returns-2 c = rw (c .before .read2 .given .1) record { answered = refl; id-written = refl; turn-written = refl; differing-written = refl; corners-written = refl }
 
 pub put-tag-spec : {M : Type 1} → statement M
 put-tag-spec =
@@ -22,5 +25,4 @@ put-tag-spec =
     (λ c. search needs)  -- enum-known-read-2
     (λ c. search needs)  -- cast-result
     returns
-    (λ c. search needs)  -- returns-2
-    )
+    returns-2)

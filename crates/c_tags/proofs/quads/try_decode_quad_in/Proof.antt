@@ -4,7 +4,7 @@ use Rattle.c_tags.proofs.quads.try_decode_quad_in.Statement.{statement}
 use Rattle.c_tags.proofs.quads.try_decode_quad_in.Tie as tie
 
 returns : tie.Need-returns
-returns c = rw (rw (c .before .before .before .before .before .quad-at .ensures) at (c .before .before .before .before .try-decode-quad-in .ensures)) at (c .put-tag .ensures)
+returns c = rw (rw (c .before .before .before .before .before .before .quad-at .ensures) at (c .before .before .before .before .before .try-decode-quad-in .ensures)) at (c .put-tag .ensures)
 
 pub try-decode-quad-in-spec : {M : Type 1} → statement M
 try-decode-quad-in-spec =
