@@ -30,9 +30,10 @@ pub record PaintedThenRead (plane : List ℕ) (frame : Frame) (family : Family) 
   pub shown : left ≡ paintTag plane frame (family .edge) (family .border) word print .plane
   -- the answer is the quad reader's on that plane, or the painter's refusal
   pub read : answer ≡ readPrint frame family codes s left (paintTag plane frame (family .edge) (family .border) word print .answer)
-  -- a painted tag is "no refusal but these: id the own number, turn (4 − s) modulo 4, corners in print order"
+  -- a painted tag is "no refusal but these: id the own number, turn (4 − s) modulo 4, corners in print order", and has "exactly as
+  -- many differing modules as were misprinted"
   pub own : (id : ℕ) (quad : Quad) (picture : List ℕ) → Painted family codes id word plane frame print quad picture → s < 4
-      → (answer ≡ accepted (ownTag id quad s)) × (left ≡ picture)
+      → (answer ≡ accepted (ownTag codes id word quad s)) × (left ≡ picture)
 
 -- the four starts of a quad are read, with these answers
 pub record StartsRead (plane : List ℕ) (frame : Frame) (family : Family) (codes : List ℕ) (quad : Quad) (s0 s1 s2 s3 : Outcome Tag) : Type 0 where
@@ -41,7 +42,7 @@ pub record StartsRead (plane : List ℕ) (frame : Frame) (family : Family) (code
   pub third : s2 ≡ decodeQuad plane frame family codes (turnedLeft 2 quad)
   pub fourth : s3 ≡ decodeQuad plane frame family codes (turnedLeft 3 quad)
   -- "with any table that passes the likeness check and any eight numbers: if one start is refused, all four are, under one number; else all
-  -- give one id and the same corners, and start s the turn of start 0 less s, modulo 4"
+  -- give one id and the same corners, and start s the turn of start 0 less s, modulo 4", and one number of differing modules
   pub alike : Passes family codes → (s1 ≡ fromStart 1 s0) × (s2 ≡ fromStart 2 s0) × (s3 ≡ fromStart 3 s0)
 
 -- the four starts of a quad as a list of quads
@@ -60,4 +61,4 @@ pub record StartsListed (plane : List ℕ) (frame : Frame) (family : Family) (co
   -- "and this start's row and corner numbers, in every accepted list reading of this plane that holds it"
   pub own : (id : ℕ) (quad : Quad) (picture : List ℕ) → Painted family codes id word plane frame print quad picture
       → (n s : ℕ) → result .answer ≡ accepted n → s < n → s < 4
-      → (rowAt (result .rows) s ≡ rowOf (accepted (ownTag id quad s))) × (cornersAt (result .corners) s ≡ cornersOf (accepted (ownTag id quad s)))
+      → (rowAt (result .rows) s ≡ rowOf (accepted (ownTag codes id word quad s))) × (cornersAt (result .corners) s ≡ cornersOf (accepted (ownTag codes id word quad s)))

@@ -41,9 +41,9 @@ pub record Printed (family : Family) (codes : List ℕ) (id w : ℕ) : Type 0 wh
   pub near : differing w (getD codes id 0) < family .«hamming_distance»
 
 module _ (plane : List ℕ) (frame : Frame) (family : Family) (codes : List ℕ) (q : Quad) (id w : ℕ) (taken : Taken frame family q) (printed : Printed family codes id w) where
-  -- the levels show the word: the tag is read under its own number, at turn 0
+  -- the levels show the word: the tag is read under its own number, at turn 0, with its misprints
   pub word-read : codeOf (levelsOf plane frame family (axesOf q)) 10 3 ≡ accepted w
-      → reading plane frame family codes q ≡ accepted (record { id = id; turn = 0; corners = answerCorners q 0 })
+      → reading plane frame family codes q ≡ accepted (record { id = id; turn = 0; differing = differing w (getD codes id 0); corners = answerCorners q 0 })
   unfolding tagOf turns
   word-read e =
       reading-on plane frame family codes q (taken .small) (taken .within) (taken .sampled)
@@ -58,7 +58,7 @@ module _ (plane : List ℕ) (frame : Frame) (family : Family) (codes : List ℕ)
   -- least 50 apart": whatever else the picture holds
   pub clear-read : let l = levelsOf plane frame family (axesOf q) in (gap : ℕ) → 10 ≤ gap → 50 ≤ greatestOf l - leastOf l
       → ((k : ℕ) → k < length l → Clear (middleOf l) gap (bit w (length l - 1 - k)) (getD l k 0))
-      → reading plane frame family codes q ≡ accepted (record { id = id; turn = 0; corners = answerCorners q 0 })
+      → reading plane frame family codes q ≡ accepted (record { id = id; turn = 0; differing = differing w (getD codes id 0); corners = answerCorners q 0 })
   clear-read gap wide contrast clear =
       let l = levelsOf plane frame family (axesOf q) in
       word-read (clear-code l 10 3 gap (bit w) (omega arith) wide contrast clear ∙ ap (λ (n : ℕ). accepted (word n (bit w))) (levels-size family q frame plane) ∙ ap accepted square-word)

@@ -36,7 +36,7 @@ use Rattle.muosleap.proofs.Order.{quad-1, quad-read}
 use Rattle.muosleap.proofs.ListReading.{accepted-means, in-is}
 use Rattle.muosleap.proofs.PaintTag.{paint-done, paint-accepted, paint-in}
 use Rattle.paper.specs.Starts.{fromStart}
-use Rattle.paper.specs.Demand3.{Passes, Painted, printOrder, ownTag, ReadsOwn, OtherStart, Demand3}
+use Rattle.paper.specs.Demand3.{Passes, misprints, Painted, printOrder, ownTag, ReadsOwn, OtherStart, Demand3}
 use Rattle.paper.proofs.Starts.{start-alike}
 use Rattle.paper.proofs.Clear.{Printed}
 use Rattle.paper.proofs.Painted.{painted-read}
@@ -90,28 +90,28 @@ module _ (family : Family) (codes : List ℕ) (id word : ℕ) (plane : List ℕ)
 
   -- start s of the painter's quad, from start 0
   own : (q : Quad) (picture : List ℕ) → q ≡ printQuad (family .edge) (family .border) print → picture ≡ painted frame (family .edge) (family .border) word print plane
-      → reading picture frame family codes (turnedLeft s q) ≡ accepted (ownTag id q s)
+      → reading picture frame family codes (turnedLeft s q) ≡ accepted (ownTag codes id word q s)
   unfolding turnedLeft
   own q picture e f =
       start-alike family codes (check .table) (check .passes) s start picture frame q
       ∙ ap (fromStart s) (ap₂ (λ (p : List ℕ) (c : Quad). reading p frame family codes c) f e ∙ painted-read plane frame family codes id word print print-is (tag .prints)
-      ∙ ap (λ (c : Quad). accepted (record { id = id; turn = 0; corners = answerCorners c 0 })) (sym e))
-      ∙ ap (λ (t : ℕ). accepted (record { id = id; turn = t % 4; corners = printOrder q })) (zero-add (4 - s))
+      ∙ ap (λ (c : Quad). accepted (record { id = id; turn = 0; differing = misprints codes id word; corners = answerCorners c 0 })) (sym e))
+      ∙ ap (λ (t : ℕ). accepted (record { id = id; turn = t % 4; differing = misprints codes id word; corners = printOrder q })) (zero-add (4 - s))
 
-  own-reading : reading shown frame family codes (turnedLeft s quad) ≡ accepted (ownTag id quad s)
+  own-reading : reading shown frame family codes (turnedLeft s quad) ≡ accepted (ownTag codes id word quad s)
   own-reading = own quad shown (tag .quad-is) (tag .shown-is)
 
   same-frame : badFrame (length shown) frame ≡ false
   same-frame =
       ap (λ (n : ℕ). badFrame n frame) (ap length (tag .shown-is) ∙ length-painted frame (family .edge) (family .border) word print plane) ∙ tag .prints .planes
 
-  reads-own : ReadsOwn family codes id frame quad shown s
+  reads-own : ReadsOwn family codes id word frame quad shown s
   reads-own = record {
     alone = quad-read shown frame family codes (turnedLeft s quad) same-frame (check .table) ∙ own-reading;
     listed = λ quads rows corners n i a l e.
         let r = accepted-means shown frame quads rows corners family codes n a in
         let i< : i < quadCount (length quads) = subst (λ (m : ℕ). i < m) (r .count) l in
-        let o : reading shown frame family codes (quadAt quads i) ≡ accepted (ownTag id quad s) = ap (reading shown frame family codes) e ∙ own-reading in (
+        let o : reading shown frame family codes (quadAt quads i) ≡ accepted (ownTag codes id word quad s) = ap (reading shown frame family codes) e ∙ own-reading in (
           ap (λ (x : Listing). rowAt (x .rows) i) (r .outcome) ∙ row-is shown frame family codes quads rows corners i i< ∙ ap rowOf o,
           ap (λ (x : Listing). cornersAt (x .corners) i) (r .outcome) ∙ corners-are shown frame family codes quads rows corners i i< ∙ ap cornersOf o,
         );

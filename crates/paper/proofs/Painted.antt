@@ -16,7 +16,7 @@ use Rattle.points.specs.declared.Quad.{Quad}
 use Rattle.points.specs.Turned.{answerCorners}
 use Rattle.tables.specs.declared.Family.{Family}
 use Rattle.tables.proofs.Table.{good-table}
-use Rattle.word.specs.Word.{bit, word, differingIn}
+use Rattle.word.specs.Word.{bit, word, differing, differingIn}
 use Rattle.word.proofs.Bits.{bit-lt}
 use Rattle.word.proofs.Differing.{in-square}
 use Rattle.places.specs.Place.{axesOf}
@@ -113,7 +113,7 @@ module _ (plane : List ℕ) (frame : Frame) (family : Family) (codes : List ℕ)
       ∙ ap (λ (n : ℕ). accepted (word n (bit w))) size
       ∙ ap accepted (square-word picture frame family codes quad id w taken printed)
 
-  -- from its first corner it is read under its own number, at turn 0
+  -- from its first corner it is read under its own number, at turn 0, with its misprints
   pub painted-read : reading (painted frame (family .edge) (family .border) w print plane) frame family codes (printQuad (family .edge) (family .border) print)
-      ≡ accepted (record { id = id; turn = 0; corners = answerCorners (printQuad (family .edge) (family .border) print) 0 })
+      ≡ accepted (record { id = id; turn = 0; differing = differing w (getD codes id 0); corners = answerCorners (printQuad (family .edge) (family .border) print) 0 })
   painted-read = word-read picture frame family codes quad id w taken printed code-is

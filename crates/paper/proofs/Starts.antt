@@ -51,7 +51,7 @@ module _ (family : Family) (codes : List ℕ) (table : badTable family codes ≡
     where
       go : (o : Outcome Seen) → Means (family .«hamming_distance») codes (family .edge) 4 0 w o → withCorners (turnedLeft s q) (seenFrom s o) ≡ fromStart s (withCorners q o)
       go (accepted seen) m =
-          ap (λ (c : Quad). accepted (record { id = seen .id; turn = turnLess s (seen .turn); corners = c })) (corners-alike s (seen .turn) q start (omega (arith, m .turned, m .in-time)))
+          ap (λ (c : Quad). accepted (record { id = seen .id; turn = turnLess s (seen .turn); differing = seen .differing; corners = c })) (corners-alike s (seen .turn) q start (omega (arith, m .turned, m .in-time)))
       go (refused n) m = refl
 
   tag-alike : (q : Quad) (o : Outcome ℕ) → ((w : ℕ) → o ≡ accepted w → w < 2 ^ samples family)

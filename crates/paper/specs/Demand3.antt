@@ -1,5 +1,5 @@
 -- Demand 3, undivided, over the definitions that the public entries are proved equal to. Each hypothesis has its sentence beside it, of
--- document 01 ("What demand 3 compares") or of the demand itself. Assumes nothing.
+-- document 01 ("What demand 3 compares"), of 02's ticket 2 or of the demand itself. Assumes nothing.
 use mathlib.Core.Path.{_≡_}
 use mathlib.Core.List.{List}
 use Prim.Native.Nat.{ℕ, _-_, _%_, _<_}
@@ -28,13 +28,17 @@ Passes family codes = checkLikeness family codes ≡ accepted (record {})
 
 -- ---- a painted tag
 
+-- "a painting word that differs from it in fewer bits than the match threshold: these bits are the misprinted modules": how many they are
+abbrev pub misprints : List ℕ → ℕ → ℕ → ℕ
+misprints codes id word = differing word (getD codes id 0)
+
 -- what is painted, and on what
 pub record Painted (family : Family) (codes : List ℕ) (id word : ℕ) (plane : List ℕ) (frame : Frame) (print : Print) (quad : Quad) (shown : List ℕ) : Type 0 where
   pub passes : Passes family codes
   -- "Take a code of the table ..: .. the code's position from 0 is the tag's own number."
   pub known : id < length codes
-  -- "a painting word that differs from it in fewer bits than the match threshold: these bits are the misprinted modules"
-  pub misprinted : differing word (getD codes id 0) < family .«hamming_distance»
+  -- "with fewer misprinted modules than the table's threshold, whichever they are"
+  pub misprinted : misprints codes id word < family .«hamming_distance»
   -- "The word is painted with the table's edge and border.": on any plane and with any print that the painter takes. It answers with the
   -- quad, and leaves the plane as shown
   pub painted : paintTag plane frame (family .edge) (family .border) word print ≡ record { answer = accepted quad; plane = shown }
@@ -47,19 +51,20 @@ printOrder q = record { q0 = q .q3; q1 = q .q2; q2 = q .q1; q3 = q .q0 }
 abbrev pub ownTurn : ℕ → ℕ
 ownTurn s = (4 - s) % 4
 
--- "no refusal but these: id the own number, turn (4 − s) modulo 4, corners in print order"
-abbrev pub ownTag : ℕ → Quad → ℕ → Tag
-ownTag id quad s = record { id = id; turn = ownTurn s; corners = printOrder quad }
+-- "no refusal but these: id the own number, turn (4 − s) modulo 4, corners in print order"; "A tag painted under demand 3's conditions is to be
+-- read with exactly as many differing modules as were misprinted."
+abbrev pub ownTag : List ℕ → ℕ → ℕ → Quad → ℕ → Tag
+ownTag codes id word quad s = record { id = id; turn = ownTurn s; differing = misprints codes id word; corners = printOrder quad }
 
 -- "Start s of the painter's quad is then read with the same table and threshold, on the plane as the painter left it."
-pub record ReadsOwn (family : Family) (codes : List ℕ) (id : ℕ) (frame : Frame) (quad : Quad) (shown : List ℕ) (s : ℕ) : Type 0 where
+pub record ReadsOwn (family : Family) (codes : List ℕ) (id word : ℕ) (frame : Frame) (quad : Quad) (shown : List ℕ) (s : ℕ) : Type 0 where
   -- "Both the quad reader's answer ..
-  pub alone : decodeQuad shown frame family codes (turnedLeft s quad) ≡ accepted (ownTag id quad s)
+  pub alone : decodeQuad shown frame family codes (turnedLeft s quad) ≡ accepted (ownTag codes id word quad s)
   -- .. and this start's row and corner numbers, in every accepted list reading of this plane that holds it": at whatever position i and beside
   -- whatever other quads
   pub listed : (quads : List Float) (rows : List ℕ) (corners : List Float) (n i : ℕ) → let result = decodeQuads shown frame family codes quads rows corners in
       result .answer ≡ accepted n → i < n → quadAt quads i ≡ turnedLeft s quad
-      → (rowAt (result .rows) i ≡ rowOf (accepted (ownTag id quad s))) × (cornersAt (result .corners) i ≡ cornersOf (accepted (ownTag id quad s)))
+      → (rowAt (result .rows) i ≡ rowOf (accepted (ownTag codes id word quad s))) × (cornersAt (result .corners) i ≡ cornersOf (accepted (ownTag codes id word quad s)))
 
 -- ---- any quad on any plane
 
@@ -76,13 +81,13 @@ pub record Demand3 : Type 0 where
   -- modules than the table's threshold, whichever they are, is read under its own number with its corners in print order, from whichever corner
   -- the clockwise quad starts"
   pub painted-tags : (family : Family) (codes : List ℕ) (id word : ℕ) (plane : List ℕ) (frame : Frame) (print : Print) (quad : Quad) (shown : List ℕ)
-      → Painted family codes id word plane frame print quad shown → (s : ℕ) → s < 4 → ReadsOwn family codes id frame quad shown s
+      → Painted family codes id word plane frame print quad shown → (s : ℕ) → s < 4 → ReadsOwn family codes id word frame quad shown s
   -- "On any plane, with any table that passes the likeness check and any eight numbers: if one start is refused, all four are, under one number;
-  -- else all give one id and the same corners, and start s the turn of start 0 less s, modulo 4."
+  -- else all give one id and the same corners, and start s the turn of start 0 less s, modulo 4." All give one number of differing modules, too
   pub any-quad : (plane : List ℕ) (frame : Frame) (family : Family) (codes : List ℕ) (quad : Quad) → Passes family codes → (s : ℕ) → s < 4
       → decodeQuad plane frame family codes (turnedLeft s quad) ≡ fromStart s (decodeQuad plane frame family codes quad)
   -- "Two accepted list readings of one plane and one such table whose quads differ only in their starts agree in all rows and corner numbers but
-  -- for the turns."
+  -- for the turns.": in the number of differing modules, too
   pub any-lists : (plane : List ℕ) (frame : Frame) (family : Family) (codes : List ℕ) → Passes family codes
       → (quads quads′ : List Float) (rows rows′ : List ℕ) (corners corners′ : List Float) (n n′ : ℕ)
       → let result = decodeQuads plane frame family codes quads rows corners in

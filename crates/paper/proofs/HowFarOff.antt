@@ -1,0 +1,146 @@
+-- Ticket 2 of document 02: what the number of differing modules means, and that the readers pass it on. Assumes nothing.
+use mathlib.Core.Path.{_≡_, refl, sym, ap, _∙_, subst}
+use mathlib.Core.Bool.{Bool, true, false, cond}
+use mathlib.Core.List.{List}
+use Prim.Native.Nat.{ℕ, _≤_, _<_}
+use native.Mathlib.Nat.{zero-add, le-of-suc-le-suc, le-trans}
+use native.Mathlib.Omega.{arith}
+use lib.Ieee.{Float}
+use lib.ListN.{length, getD}
+use Rattle.lists.proofs.Bools.{or-right}
+use Rattle.refusals.specs.Outcome.{Outcome, accepted, refused}
+use Rattle.refusals.specs.Pixels.{badFrame}
+use Rattle.refusals.specs.declared.Frame.{Frame}
+use Rattle.points.specs.declared.Quad.{Quad}
+use Rattle.points.specs.Numbers.{quadAt, cornersAt}
+use Rattle.tables.specs.Table.{badTable, badBorder, badCodes}
+use Rattle.tables.specs.declared.Family.{Family}
+use Rattle.tables.proofs.Table.{good-codes}
+use Rattle.word.specs.Word.{turns, differing}
+use Rattle.places.specs.Corners.{badCorners, cornersOutside}
+use Rattle.places.specs.Place.{axesOf}
+use Rattle.levels.specs.Levels.{codeOf}
+use Rattle.search.specs.Search.{Seen, search}
+use Rattle.search.proofs.Search.{Means, search-means}
+use Rattle.reader.specs.Reading.{samplesInside, levelsOf, Tag, withCorners, tagOf, reading}
+use Rattle.reader.proofs.Order.{reading-8, reading-9, reading-10, reading-on}
+use Rattle.listing.specs.Listing.{quadCount, Listing, rowOf, cornersOf, rowAt}
+use Rattle.listing.proofs.Listing.{row-is, corners-are}
+use Rattle.muosleap.specs.Codes.{bestTag}
+use Rattle.muosleap.specs.Quad.{decodeQuad}
+use Rattle.muosleap.specs.Quads.{decodeQuads}
+use Rattle.muosleap.proofs.Order.{quad-1, quad-6, quad-read}
+use Rattle.muosleap.proofs.ListReading.{accepted-means}
+use Rattle.paper.specs.HowFarOff.{distance, FewestAnswered, PassedOn, HowFarOff}
+
+-- no refusal is an answer
+refused-not : {A : Type 0} (n : ℕ) (a : A) (X : Type 0) → refused n ≡ accepted a → X
+refused-not n a X e = let z : _≡_ {A = ℕ} 0 1 = cc in absurd (omega arith)
+
+-- ---- the search
+
+best-tag-is : (word threshold : ℕ) (codes : List ℕ) (edge : ℕ) → badCodes edge threshold codes ≡ false → bestTag word threshold codes edge ≡ search word threshold codes edge
+unfolding bestTag
+best-tag-is word threshold codes edge p = simp p
+
+-- the codes of a table that refusal 6 lets through
+coded : (family : Family) (codes : List ℕ) → badTable family codes ≡ false → badCodes (family .edge) (family .«hamming_distance») codes ≡ false
+unfolding badTable
+coded family codes e = or-right (badBorder (family .border)) (badCodes (family .edge) (family .«hamming_distance») codes) e
+
+module _ (word threshold : ℕ) (codes : List ℕ) (edge : ℕ) where
+  good : (seen : Seen) → bestTag word threshold codes edge ≡ accepted seen → (badCodes edge threshold codes ≡ false) × (search word threshold codes edge ≡ accepted seen)
+  unfolding bestTag
+  good seen = go (badCodes edge threshold codes) refl
+    where
+      go : (b : Bool) → badCodes edge threshold codes ≡ b → cond b (refused 6) (search word threshold codes edge) ≡ accepted seen
+          → (badCodes edge threshold codes ≡ false) × (search word threshold codes edge ≡ accepted seen)
+      go true p e = refused-not 6 seen ((badCodes edge threshold codes ≡ false) × (search word threshold codes edge ≡ accepted seen)) e
+      go false p e = (p, e)
+
+  fewest-answered : (seen : Seen) → bestTag word threshold codes edge ≡ accepted seen → FewestAnswered threshold codes edge word seen
+  fewest-answered seen e =
+      let g = good seen e in
+      let t = good-codes edge threshold codes (g .0) .near .most in
+      let m = subst (Means threshold codes edge 4 0 word) (g .1) (search-means threshold codes edge (omega arith) word) in
+      let q : seen .turn ≡ m .q = m .turned ∙ zero-add (m .q) in
+      let at : (k : ℕ) → differing (turns edge (m .q) word) (getD codes k 0) ≡ distance edge codes word (seen .turn) k =
+          λ k. ap (λ (r : ℕ). distance edge codes word r k) (sym q) in
+      record {
+        known = m .code .inside;
+        turned = omega (arith, q, m .in-time);
+        counted = m .counted ∙ at (seen .id);
+        below = omega (arith, m .counted, m .code .near);
+        most = omega (arith, m .counted, m .code .near);
+        fewest = λ k l. omega (arith, m .counted, m .code .least k l, at k);
+      }
+
+-- ---- the quad reader
+
+-- what the search gave, from a tag
+abbrev seenOf : Outcome Tag → Outcome Seen
+seenOf (accepted tag) = accepted (record { id = tag .id; turn = tag .turn; differing = tag .differing })
+seenOf (refused n) = refused n
+
+seen-with-corners : (quad : Quad) (o : Outcome Seen) → seenOf (withCorners quad o) ≡ o
+seen-with-corners quad (accepted seen) = refl
+seen-with-corners quad (refused n) = refl
+
+module _ (plane : List ℕ) (frame : Frame) (family : Family) (codes : List ℕ) (quad : Quad) (tag : Tag) (table : badTable family codes ≡ false) where
+  abbrev Passed : Type 0
+  Passed = PassedOn plane frame family codes quad tag
+
+  from-word : (o : Outcome ℕ) → codeOf (levelsOf plane frame family (axesOf quad)) 10 3 ≡ o → tagOf family codes quad o ≡ accepted tag → Passed
+  unfolding tagOf
+  from-word (accepted w) p e =
+      record {
+        word = w;
+        sampled = p;
+        searched = best-tag-is w (family .«hamming_distance») codes (family .edge) (coded family codes table)
+            ∙ sym (seen-with-corners quad (search w (family .«hamming_distance») codes (family .edge))) ∙ ap seenOf e;
+      }
+  from-word (refused n) p e = refused-not n tag Passed e
+
+  from-reading : reading plane frame family codes quad ≡ accepted tag → Passed
+  from-reading e = corners (badCorners quad) refl
+    where
+      all : badCorners quad ≡ false → cornersOutside (frame .width) (frame .height) quad ≡ false → (t : Bool) → samplesInside frame family (axesOf quad) ≡ t → Passed
+      all b o false i = refused-not 10 tag Passed (sym (reading-10 plane frame family codes quad b o i) ∙ e)
+      all b o true i = from-word (codeOf (levelsOf plane frame family (axesOf quad)) 10 3) refl (sym (reading-on plane frame family codes quad b o i) ∙ e)
+
+      inside : badCorners quad ≡ false → (t : Bool) → cornersOutside (frame .width) (frame .height) quad ≡ t → Passed
+      inside b true o = refused-not 9 tag Passed (sym (reading-9 plane frame family codes quad b o) ∙ e)
+      inside b false o = all b o (samplesInside frame family (axesOf quad)) refl
+
+      corners : (t : Bool) → badCorners quad ≡ t → Passed
+      corners true b = refused-not 8 tag Passed (sym (reading-8 plane frame family codes quad b) ∙ e)
+      corners false b = inside b (cornersOutside (frame .width) (frame .height) quad) refl
+
+passed-on : (plane : List ℕ) (frame : Frame) (family : Family) (codes : List ℕ) (quad : Quad) (tag : Tag)
+    → decodeQuad plane frame family codes quad ≡ accepted tag → PassedOn plane frame family codes quad tag
+passed-on plane frame family codes quad tag e = framed (badFrame (length plane) frame) refl
+  where
+    tabled : badFrame (length plane) frame ≡ false → (t : Bool) → badTable family codes ≡ t → PassedOn plane frame family codes quad tag
+    tabled f true t = refused-not 6 tag (PassedOn plane frame family codes quad tag) (sym (quad-6 plane frame family codes quad f t) ∙ e)
+    tabled f false t = from-reading plane frame family codes quad tag t (sym (quad-read plane frame family codes quad f t) ∙ e)
+
+    framed : (f : Bool) → badFrame (length plane) frame ≡ f → PassedOn plane frame family codes quad tag
+    framed true f = refused-not 1 tag (PassedOn plane frame family codes quad tag) (sym (quad-1 plane frame family codes quad f) ∙ e)
+    framed false f = tabled f (badTable family codes) refl
+
+-- ---- the list reader
+
+listed-alone : (plane : List ℕ) (frame : Frame) (family : Family) (codes : List ℕ) (quads : List Float) (rows : List ℕ) (corners : List Float) (n i : ℕ)
+    → let result = decodeQuads plane frame family codes quads rows corners in
+    let read = decodeQuad plane frame family codes (quadAt quads i) in
+    result .answer ≡ accepted n → i < n → (rowAt (result .rows) i ≡ rowOf read) × (cornersAt (result .corners) i ≡ cornersOf read)
+listed-alone plane frame family codes quads rows corners n i a l =
+    let r = accepted-means plane frame quads rows corners family codes n a in
+    let i< : i < quadCount (length quads) = subst (λ (m : ℕ). i < m) (r .count) l in
+    let alone = sym (quad-read plane frame family codes (quadAt quads i) (r .good-frame) (r .good-table)) in (
+      ap (λ (x : Listing). rowAt (x .rows) i) (r .outcome) ∙ row-is plane frame family codes quads rows corners i i< ∙ ap rowOf alone,
+      ap (λ (x : Listing). cornersAt (x .corners) i) (r .outcome) ∙ corners-are plane frame family codes quads rows corners i i< ∙ ap cornersOf alone,
+    )
+
+pub how-far-off : HowFarOff
+how-far-off = record { search = fewest-answered; quad = passed-on; list = listed-alone }
