@@ -41,11 +41,11 @@ pub record IsTag (bits id turn : ℕ) : Type 0 where
   pub turn-lt : turn < 4
   pub text : (space ∷ decimal id) ++ (space ∷ decimal turn) ≡ afterWord (searched bits)
 
-pub tag-found : (bits : ℕ) (found : Found) → paperFound found ≡ searched bits → (id turn : ℕ) → found ≡ Tag id turn → IsTag bits id turn
+pub tag-found : (bits : ℕ) (found : Found) → paperFound found ≡ searched bits → (id turn differing : ℕ) → found ≡ Tag id turn differing → IsTag bits id turn
 unfolding afterWord
-tag-found bits found right id turn e =
+tag-found bits found right id turn differing e =
     let s = sym right ∙ ap paperFound e in
-    let m = found-small bits (record { id = id; turn = turn }) s in
+    let m = found-small bits (record { id = id; turn = turn; differing = differing }) s in
     record { id-lt = m .0; turn-lt = m .1; text = ap afterWord (sym s) }
 
 pub none-found : (bits : ℕ) (found : Found) → paperFound found ≡ searched bits → (n : ℕ) → found ≡ Refused n → space ∷ none ≡ afterWord (searched bits)

@@ -93,7 +93,11 @@ fn put_answer(bits: u64, out: &mut [u8], at: usize) -> usize
     requires { ⌜ at + 7 ≤ length (now out) ⌝ }
     ensures { λ r. ⌜ Put (afterWord (searched bits) ++ (lineFeed ∷ [])) (now (out .entry)) at (now (out .exit)) r ⌝ }
 {
-    let Found::Tag { id, turn } = search_t16h5(bits) else {
+    let Found::Tag {
+        id,
+        turn,
+        differing: _,
+    } = search_t16h5(bits) else {
         return put(b" none\n", out, at);
     };
     let id_end = put_number(id as u8, out, at);

@@ -17,7 +17,7 @@ use Rattle.readbits_lines.proofs.put_answer.Tie as tie
 found : (c : tie.After-known-told) → IsTag (c .before .before .before .before .before .args .bits) (c .before .id .given .0 .0) (c .before .id .given .0 .1 .0)
 found c =
     let f = c .before .before .before in
-    tag-found (f .before .before .args .bits) (f .search-t16h5 .result) (f .search-t16h5 .ensures) (c .before .id .given .0 .0) (c .before .id .given .0 .1 .0) (c .before .id .given .1)
+    tag-found (f .before .before .args .bits) (f .search-t16h5 .result) (f .search-t16h5 .ensures) (c .before .id .given .0 .0) (c .before .id .given .0 .1 .0) (c .before .id .given .0 .1 .1 .0) (c .before .id .given .1)
 
 returns : tie.Need-returns
 returns c =
