@@ -4,7 +4,6 @@ use mathlib.Core.Path.{_≡_}
 use mathlib.Core.List.{List}
 use lib.Ieee.{Float}
 use Rattle.refusals.specs.Outcome.{Outcome, number}
-use Rattle.points.specs.declared.Quad.{Quad}
 use Rattle.search.specs.Search.{Seen}
 use Rattle.reader.specs.Reading.{Tag}
 use Rattle.points.specs.Numbers.{numbersOf}

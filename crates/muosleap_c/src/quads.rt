@@ -40,7 +40,17 @@ pub extern "C" fn muosleap_try_decode_quad(
         height,
         pitch,
     };
-    c_tags::quads::try_decode_quad(plane, frame, family, codes, quad, id, turn, differing, corners)
+    c_tags::quads::try_decode_quad(
+        plane,
+        frame,
+        family,
+        codes,
+        quad,
+        id,
+        turn,
+        differing,
+        corners,
+    )
 }
 
 #[no_mangle]

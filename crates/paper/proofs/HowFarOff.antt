@@ -2,8 +2,8 @@
 use mathlib.Core.Path.{_≡_, refl, sym, ap, _∙_, subst}
 use mathlib.Core.Bool.{Bool, true, false, cond}
 use mathlib.Core.List.{List}
-use Prim.Native.Nat.{ℕ, _≤_, _<_}
-use native.Mathlib.Nat.{zero-add, le-of-suc-le-suc, le-trans}
+use Prim.Native.Nat.{ℕ, _<_}
+use native.Mathlib.Nat.{zero-add}
 use native.Mathlib.Omega.{arith}
 use lib.Ieee.{Float}
 use lib.ListN.{length, getD}
@@ -65,7 +65,7 @@ module _ (word threshold : ℕ) (codes : List ℕ) (edge : ℕ) where
       let m = subst (Means threshold codes edge 4 0 word) (g .1) (search-means threshold codes edge (omega arith) word) in
       let q : seen .turn ≡ m .q = m .turned ∙ zero-add (m .q) in
       let at : (k : ℕ) → differing (turns edge (m .q) word) (getD codes k 0) ≡ distance edge codes word (seen .turn) k =
-          λ k. ap (λ (r : ℕ). distance edge codes word r k) (sym q) in
+      λ k. ap (λ (r : ℕ). distance edge codes word r k) (sym q) in
       record {
         known = m .code .inside;
         turned = omega (arith, q, m .in-time);

@@ -97,7 +97,8 @@ fn put_answer(bits: u64, out: &mut [u8], at: usize) -> usize
         id,
         turn,
         differing: _,
-    } = search_t16h5(bits) else {
+    } = search_t16h5(bits)
+    else {
         return put(b" none\n", out, at);
     };
     let id_end = put_number(id as u8, out, at);

@@ -80,7 +80,11 @@ fn tag_of(bits: u64, family: Family, codes: &[u64], quad: Quad) -> Reading
     ensures { λ r. ⌜ paperReading r ≡ tagOf family (now (codes .entry)) quad (accepted bits) ⌝ }
 {
     match search::best_tag(bits, family.hamming_distance, codes, family.edge) {
-        Found::Tag { id, turn, differing } => Reading::Tag {
+        Found::Tag {
+            id,
+            turn,
+            differing,
+        } => Reading::Tag {
             id,
             turn,
             differing,

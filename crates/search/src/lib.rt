@@ -87,9 +87,12 @@ pub fn best_tag(bits: u64, hamming_distance: u8, codes: &[u64], edge: u8) -> Fou
     let mut turn: u8 = 0;
     while turn < 4 {
         let best = nearest(seen, codes);
-        let differing = best.differing;
-        if differing < hamming_distance {
-            return Found::Tag { id: best.id, turn, differing };
+        if best.differing < hamming_distance {
+            return Found::Tag {
+                id: best.id,
+                turn,
+                differing: best.differing,
+            };
         }
         seen = word::rotate_bits(seen, edge);
         turn += 1;

@@ -40,9 +40,10 @@ loop-holds c = (omega arith, refl)
 
 returns : tie.Need-returns Inv-loop μ-loop
 returns c =
-    let l = c .before .before .before in
+    let n = c .before .before in
+    let l = n .before .before in
     let a = l .before .before .args in
-    found (a .hamming-distance) (a .codes .now) (a .edge) (l .loop .turn) (l .loop .seen) (omega arith) (c .before .nearest .result) (c .before .nearest .ensures) (c .if1 .taken)
+    found (a .hamming-distance) (a .codes .now) (a .edge) (l .loop .turn) (l .loop .seen) (omega arith) (n .nearest .result) (n .nearest .ensures) (c .if1 .taken)
     ∙ l .loop .inv .1
 
 rotate-bits-requires : tie.Need-rotate-bits-requires Inv-loop μ-loop
@@ -50,9 +51,9 @@ rotate-bits-requires c κs = (omega arith, omega arith)
 
 loop-again : tie.Need-loop-again Inv-loop μ-loop
 loop-again c =
-    let l = c .before .before .before .before in
-    let a = l .before .before .args in
-    let n = c .before .before in (
+    let n = c .before .before .before in
+    let l = n .before .before in
+    let a = l .before .before .args in (
       omega arith,
       next (a .hamming-distance) (a .codes .now) (a .edge) (l .loop .turn) (l .loop .seen) (omega arith) (n .nearest .result) (n .nearest .ensures) (c .rotate-bits .result) (c .before .if1 .left) (c .rotate-bits .ensures)
           ∙ l .loop .inv .1,
