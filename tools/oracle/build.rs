@@ -49,6 +49,26 @@ fn part_before(text: &str, first: &str, last: &str) -> String {
     with[..with.len() - last.len()].to_string()
 }
 
+/// `text` with each first text, which stands there once, replaced by its second.
+fn replaced(text: &str, pairs: &[(&str, &str)]) -> String {
+    pairs.iter().fold(text.to_string(), |text, (old, new)| {
+        assert_eq!(text.matches(old).count(), 1, "`{old}` has to stand once");
+        text.replace(old, new)
+    })
+}
+
+/// `best_tag` with its answer widened by the number of differing bits that it found and dropped; its arithmetic is untouched.
+fn best_tag_differing(best_tag: &str) -> String {
+    replaced(
+        best_tag,
+        &[
+            ("pub fn best_tag(", "pub fn best_tag_differing("),
+            ("Option<(usize, usize)>", "Option<(usize, usize, u32)>"),
+            ("return Some((best_idx, rotated));", "return Some((best_idx, rotated, *best_score));"),
+        ],
+    )
+}
+
 fn image_util(source: &Source) -> String {
     let blur = source.whole("pub fn gaussian_blur_f32(");
     let kernel = part_before(&blur, "let radius =", "let width =");
@@ -80,6 +100,7 @@ fn detector(source: &Source) -> String {
     let centers = part(&saddles, "let saddle_cluster_centers", ".collect();");
     let decode = source.method("    fn try_decode_quad(");
     let order = part(&decode, "let mut new_q_pts", "try_into().unwrap();");
+    let search = source.whole("pub fn best_tag(");
     let quad = "quad_points: &[(f32, f32)]";
     [
         "use std::ops::BitXor;\nuse super::{image_util, tag_families};\nuse super::image_util::GrayImagef32;\n".to_string(),
@@ -90,7 +111,8 @@ fn detector(source: &Source) -> String {
         positions,
         bits,
         source.whole("const fn rotate_bits("),
-        source.whole("pub fn best_tag("),
+        best_tag_differing(&search),
+        search,
         source.whole("fn init_saddle_clusters("),
         format!("impl TagDetector {{\n{}\n{decode}\n{ACCESS}}}\n", source.method("    pub fn new(")),
         format!(
