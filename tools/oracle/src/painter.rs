@@ -2,7 +2,8 @@
 
 use crate::limits::{self, Plane};
 use crate::out::{Digest, File, Frame, Numbers, SEED};
-use crate::quads::{Picture, Quad, push_plane, push_quad, started};
+use crate::quads::{Picture, Quad, push_plane, push_quad, push_reading, started};
+use crate::words::search;
 
 pub fn files() -> Vec<File> {
     vec![paintings(), prints()]
@@ -105,8 +106,8 @@ fn paintings() -> File {
 }
 
 /// Tags of the families, some misprinted, painted and read at each start. Where no module lies near a half the original reads what
-/// the oracle painted; elsewhere (even cells) the answer is that of document 01. Both are the same: the tag's own number, turn
-/// (4 - s) modulo 4, the corners in print order.
+/// the oracle painted; elsewhere (even cells) the answer is that of documents 01 and 02. Both are the same: the tag's own number, turn
+/// (4 - s) modulo 4, as many differing modules as are misprinted, the corners in print order.
 fn prints() -> File {
     let mut file = File::new("vectors_tags/data/prints");
     let mut numbers = Numbers::from(SEED + 3);
@@ -127,6 +128,9 @@ fn read_print(number: u8, turn: u8, cell: u64, numbers: &mut Numbers) -> Frame {
     let flips = numbers.below(family.hamming_distance() as usize);
     let mut word = family.code_list()[id];
     (0..flips).for_each(|flip| word ^= 1 << (11 * flip + numbers.below(10)));
+    let misprinted = (word ^ family.code_list()[id]).count_ones() as u8;
+    let found = search(word, family.hamming_distance(), family.code_list(), edge);
+    assert_eq!(found, (0, id, 0, misprinted), "the original searches a misprinted word otherwise");
     let (dark, by) = (numbers.below(150) as u8, 50 + numbers.below(56) as u8);
     let (x, y) = (numbers.below(4) as u64, numbers.below(4) as u64);
     let mut print = Print { width: 0, height: 0, edge, border, word, x, y, cell, turn, light: dark + by, dark };
@@ -140,8 +144,8 @@ fn read_print(number: u8, turn: u8, cell: u64, numbers: &mut Numbers) -> Frame {
         let quad = started(&print.quad(), start);
         let mut corners = print.quad();
         corners.reverse();
-        let answer = (0, id, (4 - start as u8) % 4, corners);
+        let answer = (0, id, (4 - start as u8) % 4, misprinted, corners);
         assert!(!picture.is_clear(&quad) || picture.read(&quad) == answer, "the original reads a painted tag otherwise");
-        push_quad(frame.u8(answer.0).u16(answer.1).u8(answer.2), &answer.3)
+        push_reading(frame, answer)
     })
 }

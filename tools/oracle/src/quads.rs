@@ -1,12 +1,21 @@
 //! Vectors of quads: the corner test, whole readings with the answer's corners, and lists of quads.
 
 use crate::limits;
-use crate::original::detector::{TagDetector, answer, best_tag, bit_code, corners_inside, decode_positions, samples, turned};
+use crate::original::detector::{TagDetector, answer, bit_code, corners_inside, decode_positions, samples, turned};
 use crate::original::tag_families::TagFamily;
 use crate::out::{File, Frame, Numbers, SEED};
+use crate::words::{push_found, search};
 use image::GrayImage;
 
 pub type Quad = [(f32, f32); 4];
+
+/// A reading: a refusal number, id, turn, the number of differing modules, and corners.
+pub type Reading = (u8, usize, u8, u8, Quad);
+
+/// A frame with a reading behind it.
+pub fn push_reading(frame: Frame, (refusal, id, turn, differing, corners): Reading) -> Frame {
+    push_quad(push_found(frame, (refusal, id, turn, differing)), &corners)
+}
 
 pub fn files() -> Vec<File> {
     vec![corner_tests(), readings(), refusals()]
@@ -114,14 +123,14 @@ impl Picture {
         outside || self.places(quad).iter().all(|&(x, y)| far(x) && far(y))
     }
 
-    /// What the original says: a refusal number, id, turn and corners. The number is that of the part that says no.
-    pub fn read(&self, quad: &Quad) -> (u8, usize, u8, Quad) {
+    /// What the original says. The refusal number is that of the part that says no; turn and differing modules are its search's.
+    pub fn read(&self, quad: &Quad) -> Reading {
         let detector = &self.detector;
         let image = self.image();
         let whole = detector.decode(&image, quad);
         let refused = |number: u8| {
             assert!(whole.is_none());
-            (number, 0, 0, [(0.0, 0.0); 4])
+            (number, 0, 0, 0, [(0.0, 0.0); 4])
         };
         let (width, height) = (self.width as u32, self.height as u32);
         let Some(places) = decode_positions(width, height, quad, detector.border(), detector.edge(), 0.5) else {
@@ -130,20 +139,20 @@ impl Picture {
         let Some(_) = samples(&image, &places) else { return refused(10) };
         let Some(_) = bit_code(&image, &places, 10, u32::MAX) else { return refused(11) };
         let Some(bits) = bit_code(&image, &places, 10, 3) else { return refused(12) };
-        let Some((id, turn)) = best_tag(bits, detector.hamming_distance(), detector.code_list(), detector.edge()) else {
+        let (0, id, turn, differing) = search(bits, detector.hamming_distance(), detector.code_list(), detector.edge()) else {
             return refused(13);
         };
-        assert_eq!(whole, Some((id, answer(quad, turn))));
-        (0, id, turn as u8, whole.unwrap().1)
+        let corners = answer(quad, turn as usize);
+        assert_eq!(whole, Some((id, corners)));
+        (0, id, turn, differing, corners)
     }
 
     fn push(&self, file: &mut File, quads: Vec<Quad>) {
         file.push(Frame::new().u8(0).u16(self.width).u16(self.height).bytes(&self.pixels));
         let quads: Vec<Quad> = quads.into_iter().filter(|quad| self.is_clear(quad)).collect();
         for quad in &quads {
-            let (refusal, id, turn, corners) = self.read(quad);
             let frame = push_quad(Frame::new().u8(1).u8(self.number), quad);
-            file.push(push_quad(frame.u8(refusal).u16(id).u8(turn), &corners));
+            file.push(push_reading(frame, self.read(quad)));
         }
         file.push(self.list(&quads[..quads.len().min(20)]));
     }
@@ -152,8 +161,7 @@ impl Picture {
     fn list(&self, quads: &[Quad]) -> Frame {
         let frame = Frame::new().u8(2).u8(self.number).u8(quads.len() as u8);
         let frame = quads.iter().fold(frame, push_quad);
-        let rows = quads.iter().map(|quad| self.read(quad));
-        rows.fold(frame, |frame, (refusal, id, turn, corners)| push_quad(frame.u8(refusal).u16(id).u8(turn), &corners))
+        quads.iter().map(|quad| self.read(quad)).fold(frame, push_reading)
     }
 }
 
@@ -200,26 +208,33 @@ fn readings() -> File {
     }
     damaged(&mut file, &mut numbers);
     dented(&mut file, &mut numbers);
+    for (number, flips) in [(2, 1), (2, 2), (4, 2), (4, 3)] {
+        spoilt(&mut file, number, flips, 0, &mut numbers);
+    }
     file
+}
+
+/// A tag with misprinted modules and unsure modules, and its four starts.
+fn spoilt(file: &mut File, number: u8, flips: usize, unsure: usize, numbers: &mut Numbers) {
+    let mut picture = Picture::new(number, 36, 34, |_| 200);
+    let (edge, border) = (picture.detector.edge() as usize, picture.detector.border() as usize);
+    let mut word = picture.detector.code_list()[numbers.below(30)];
+    (0..flips).for_each(|flip| word ^= 1 << (7 * flip + 2));
+    let quad = picture.draw(word, (3, 2), 3, [50, 200]);
+    for place in 0..unsure {
+        let (row, column) = (place + border, edge - 1 - place + border);
+        // 125 is the middle: 116 and 134 are unsure; a bit keeps its value.
+        for pixel in (0..9).map(|k| (2 + row * 3 + k / 3) * 36 + 3 + column * 3 + k % 3) {
+            picture.pixels[pixel] = if picture.pixels[pixel] == 200 { 134 } else { 116 };
+        }
+    }
+    picture.push(file, (0..4).map(|start| started(&quad, start)).collect());
 }
 
 /// Misprinted modules, unsure modules, another family's tag, a picture of noise.
 fn damaged(file: &mut File, numbers: &mut Numbers) {
     for (number, flips, unsure) in [(3u8, 2, 3), (3, 3, 0), (3, 0, 4), (1, 1, 3), (1, 2, 0), (0, 1, 0), (0, 0, 3)] {
-        let mut picture = Picture::new(number, 36, 34, |_| 200);
-        let edge = picture.detector.edge() as usize;
-        let mut word = picture.detector.code_list()[numbers.below(30)];
-        (0..flips).for_each(|flip| word ^= 1 << (7 * flip + 2));
-        let quad = picture.draw(word, (3, 2), 3, [50, 200]);
-        for place in 0..unsure {
-            let (row, column) =
-                (place + picture.detector.border() as usize, edge - 1 - place + picture.detector.border() as usize);
-            // 125 is the middle: 116 and 134 are unsure; a bit keeps its value.
-            for pixel in (0..9).map(|k| (2 + row * 3 + k / 3) * 36 + 3 + column * 3 + k % 3) {
-                picture.pixels[pixel] = if picture.pixels[pixel] == 200 { 134 } else { 116 };
-            }
-        }
-        picture.push(file, (0..4).map(|start| started(&quad, start)).collect());
+        spoilt(file, number, flips, unsure, numbers);
     }
     let noise = Picture::new(0, 20, 20, |_| numbers.next() as u8);
     let quad = [(1.0, 1.0), (18.0, 2.0), (17.0, 18.0), (2.0, 17.0)];

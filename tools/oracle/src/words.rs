@@ -1,7 +1,7 @@
 //! Vectors of `rotate_bits` and `best_tag`.
 
 use crate::limits::{self, Answer};
-use crate::original::detector::{TagDetector, best_tag, turned};
+use crate::original::detector::{TagDetector, best_tag, best_tag_differing, turned};
 use crate::original::tag_families::TagFamily;
 use crate::out::{Digest, File, Frame, Numbers, SEED};
 
@@ -22,6 +22,21 @@ pub fn files() -> Vec<File> {
 /// The number with ones at the edge² places of the square.
 pub fn square(edge: u8) -> u64 {
     u64::MAX >> (64 - edge as u32 * edge as u32)
+}
+
+/// A search's answer: a refusal number, id, turn and the number of differing bits.
+pub type Found = (u8, usize, u8, u8);
+
+/// What the original says. Its own search and the one with the widened answer have to agree.
+pub fn search(bits: u64, threshold: u8, codes: &[u64], edge: u8) -> Found {
+    let wide = best_tag_differing(bits, threshold, codes, edge);
+    assert_eq!(best_tag(bits, threshold, codes, edge), wide.map(|(id, turn, _)| (id, turn)));
+    wide.map_or((13, 0, 0, 0), |(id, turn, differing)| (0, id, turn as u8, differing as u8))
+}
+
+/// A frame with a search's answer behind it.
+pub fn push_found(frame: Frame, (refusal, id, turn, differing): Found) -> Frame {
+    frame.u8(refusal).u16(id).u8(turn).u8(differing)
 }
 
 fn rotate_bits() -> File {
@@ -78,21 +93,22 @@ impl Table<'_> {
         Table { file, edge, threshold, codes }
     }
 
-    fn expect(&mut self, bits: u64, refusal: u8, id: usize, turn: u8) {
-        self.file.push(Frame::new().u8(1).u64(bits).u8(refusal).u16(id).u8(turn));
+    fn expect(&mut self, bits: u64, found: Found) {
+        self.file.push(push_found(Frame::new().u8(1).u64(bits), found));
     }
 
-    /// What the original says: a refusal number, id and turn.
-    fn found(&self, bits: u64) -> (u8, usize, u8) {
-        match best_tag(bits, self.threshold, &self.codes, self.edge) {
-            Some((id, turn)) => (0, id, turn as u8),
-            None => (13, 0, 0),
-        }
+    fn found(&self, bits: u64) -> Found {
+        search(bits, self.threshold, &self.codes, self.edge)
     }
 
     fn search(&mut self, bits: u64) {
-        let (refusal, id, turn) = self.found(bits);
-        self.expect(bits, refusal, id, turn);
+        self.expect(bits, self.found(bits));
+    }
+
+    /// A search that has to find a code as damaged.
+    fn damaged_as(&mut self, bits: u64, id: usize, turn: u8, differing: u8) {
+        assert_eq!(self.found(bits), (0, id, turn, differing));
+        self.search(bits);
     }
 
     fn turned(&self, code: u64, turns: usize) -> u64 {
@@ -119,10 +135,10 @@ impl Table<'_> {
                 Kind::Exact => self.turned(self.codes[k / 4], k % 4),
                 Kind::Damaged => self.damaged(&mut numbers),
             };
-            let (refusal, id, turn) = self.found(bits);
+            let (refusal, id, turn, differing) = self.found(bits);
             digest.u8(refusal);
             digest.u16(id);
-            digest.u8(turn);
+            digest.bytes(&[turn, differing]);
         }
         self.file.push(Frame::new().u8(2).u8(kind as u8).u64(seed).u32(count as u32).u64(digest.0));
     }
@@ -137,7 +153,7 @@ impl Table<'_> {
 }
 
 /// A family's table with digests and, for one code in `every`, rows: the code at each turn, near misses about the threshold, words
-/// with bits above the square, words of no code.
+/// with bits above the square, words of no code. For three codes there are rows about the threshold at each turn.
 fn family(path: &'static str, number: u8, family: TagFamily, seed: u64, every: usize) -> File {
     let mut file = File::new(path);
     let mut numbers = Numbers::from(seed);
@@ -162,6 +178,9 @@ fn family(path: &'static str, number: u8, family: TagFamily, seed: u64, every: u
     for bits in [0, u64::MAX, square(table.edge)] {
         table.search(bits);
     }
+    for id in [0, table.codes.len() / 2, table.codes.len() - 1] {
+        about_threshold(&mut table, id, &mut numbers);
+    }
     table.digest(Kind::Exact, seed, 4 * table.codes.len());
     table.digest(Kind::Damaged, seed, 20_000);
     if table.edge == 4 {
@@ -172,6 +191,32 @@ fn family(path: &'static str, number: u8, family: TagFamily, seed: u64, every: u
         table.file.push(likeness(t, detector.border(), refusal));
     }
     file
+}
+
+/// Rows of a code of a table that passes the likeness check. At each turn: as many flipped bits as still match, and one more; at later
+/// turns with all bits above the square, which turning loses. At turn 0 some bits above the square, with and without flipped ones,
+/// together as many as still match, and one more. What still matches has to be found as damaged.
+fn about_threshold(table: &mut Table, id: usize, numbers: &mut Numbers) {
+    let (code, most) = (table.codes[id], table.threshold - 1);
+    let outside = !square(table.edge);
+    for turns in 0..4 {
+        let [near, far] = [most, most + 1].map(|flips| table.turned(table.flipped(code, flips as usize, numbers), turns));
+        table.damaged_as(near, id, (4 - turns as u8) % 4, most);
+        table.search(far);
+        if 0 < turns && outside != 0 {
+            table.damaged_as(near | outside, id, 4 - turns as u8, most);
+        }
+    }
+    for flips in (0..=most).filter(|_| outside != 0) {
+        let [near, far] = [most, most + 1].map(|all| above(table.flipped(code, flips as usize, numbers), all - flips));
+        table.damaged_as(near, id, 0, most);
+        table.search(far);
+    }
+}
+
+/// The word with `count` bits above the square, the highest ones.
+fn above(word: u64, count: u8) -> u64 {
+    word | !(u64::MAX >> count)
 }
 
 /// The likeness check in document 01's words. The original has none.
@@ -223,6 +268,9 @@ fn lent() -> File {
     for (edge, threshold) in [(6, 3), (8, 12)] {
         large_table(&mut file, edge, threshold, &mut numbers);
     }
+    for (edge, threshold) in [(2, 1), (3, 2), (4, 3), (5, 4), (6, 5), (7, 6), (8, 1), (8, 8), (8, 9)] {
+        unlike_table(&mut file, edge, threshold, &mut numbers);
+    }
     file
 }
 
@@ -231,13 +279,13 @@ fn searches_of_limits() -> File {
     let mut file = File::new("vectors_tags/data/limits");
     for row in limits::searches() {
         let mut table = Table::lend(&mut file, row.edge, row.threshold, row.codes);
-        let (refusal, id, turn) = match row.answer {
-            Answer::Tag(id, turn) => (0, id, turn),
-            Answer::Refused(number) => (number, 0, 0),
+        let found = match row.answer {
+            Answer::Tag(id, turn, differing) => (0, id, turn, differing),
+            Answer::Refused(number) => (number, 0, 0, 0),
             Answer::Word(_) => panic!("a search answers a tag"),
         };
-        assert!(refusal == 6 || table.found(row.bits) == (refusal, id, turn), "limits.txt and the original differ");
-        table.expect(row.bits, refusal, id, turn);
+        assert!(found.0 == 6 || table.found(row.bits) == found, "limits.txt and the original differ");
+        table.expect(row.bits, found);
     }
     file
 }
@@ -284,6 +332,22 @@ fn small_table(file: &mut File, edge: u8, threshold: u8, numbers: &mut Numbers) 
     table.search(numbers.next() & square(edge));
     table.search(numbers.next());
     table.digest(Kind::Damaged, numbers.next(), 500);
+}
+
+/// A table that passes the likeness check, of up to three codes, and rows about its threshold.
+fn unlike_table(file: &mut File, edge: u8, threshold: u8, numbers: &mut Numbers) {
+    let mut codes = Vec::new();
+    for _ in 0..10_000 {
+        codes.push(numbers.next() & square(edge));
+        if codes.len() > 3 || !is_unlike(edge, threshold, &codes) {
+            codes.pop();
+        }
+    }
+    let mut table = Table::lend(file, edge, threshold, codes);
+    for id in 0..table.codes.len() {
+        about_threshold(&mut table, id, numbers);
+    }
+    table.digest(Kind::Exact, numbers.next(), 4 * table.codes.len());
 }
 
 fn large_table(file: &mut File, edge: u8, threshold: u8, numbers: &mut Numbers) {
