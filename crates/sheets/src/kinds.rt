@@ -12,16 +12,31 @@ pub const TURNS: u8 = 0;
 // Every code in each corner of a plane with room for one pixel more.
 pub const CORNERS: u8 = 1;
 
-// Every code with each of the misprints.
+// Every code with each of the table's misprints.
 pub const MISPRINTS: u8 = 2;
 
-// The misprints that are tried: none below threshold 1, each module below 2, each module and 36 pairs of modules below 3 and more.
-fn misprints_of(number: u8) -> usize {
+// How many misprints are tried: none below threshold 1, each module below 2, 36 modules and 36 pairs of modules below 3, and eight
+// rows of modules more below 9.
+pub fn misprints_of(number: u8) -> usize {
     match number {
         0 => 0,
         1 | 2 => 25,
+        5 => 80,
         6 => 9,
         _ => 72,
+    }
+}
+
+// Modules that are misprinted: their bits, and how many they are.
+pub struct Wrong {
+    pub bits: u64,
+    pub modules: u8,
+}
+
+pub fn clean() -> Wrong {
+    Wrong {
+        bits: 0,
+        modules: 0,
     }
 }
 
@@ -29,24 +44,37 @@ fn bit(place: usize) -> u64 {
     1u64 << ((place % 64) as u64)
 }
 
-// The misprinted modules: one, or from 36 on two, seven places apart.
-fn pattern(p: usize) -> u64 {
+// Misprint p: of one module, from 36 on of two, seven places apart, and from 72 on of the eight of a row.
+pub fn misprint(p: usize) -> Wrong {
     if p < 36 {
-        return bit(p);
+        return Wrong {
+            bits: bit(p),
+            modules: 1,
+        };
     }
-    let first = p - 36;
-    bit(first) ^ bit((first % 36 + 7) % 36)
+    if p < 72 {
+        let first = p - 36;
+        return Wrong {
+            bits: bit(first) ^ bit((first + 7) % 36),
+            modules: 2,
+        };
+    }
+    Wrong {
+        bits: 255u64 << ((p % 8 * 8) as u64),
+        modules: 8,
+    }
 }
 
 // The sheet of a code, at a turn, with some modules misprinted. Shades are 50 apart.
-pub fn sheet_of(number: u8, id: usize, cell: usize, turn: usize, wrong: u64) -> Sheet {
+pub fn sheet_of(number: u8, id: usize, cell: usize, turn: usize, wrong: Wrong) -> Sheet {
     let family = codes::family(number);
     let side = family.edge as usize + 2 * (family.border as usize);
     Sheet {
         number,
         family,
         id,
-        word: codes::code(number, id) ^ wrong,
+        word: codes::code(number, id) ^ wrong.bits,
+        misprinted: wrong.modules,
         print: Print {
             x: 0,
             y: 0,
@@ -75,9 +103,9 @@ fn each(number: u8, kind: u8) -> usize {
 fn nth(number: u8, kind: u8, id: usize, p: usize) -> Sheet {
     let cell = CELLS[p / 4 % 5];
     match kind {
-        TURNS => sheet_of(number, id, cell, p, 0),
-        CORNERS => moved(sheet_of(number, id, cell, id, 0), p),
-        _ => sheet_of(number, id, 3, id, pattern(p)),
+        TURNS => sheet_of(number, id, cell, p, clean()),
+        CORNERS => moved(sheet_of(number, id, cell, id, clean()), p),
+        _ => sheet_of(number, id, 3, id, misprint(p)),
     }
 }
 

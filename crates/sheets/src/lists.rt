@@ -1,4 +1,5 @@
 // Lists of the four starts of one painted tag, over and over.
+use crate::kinds;
 use crate::kinds::sheet_of;
 use crate::prints::Sheet;
 use crate::prints::own;
@@ -28,12 +29,12 @@ fn put_starts(quads: &mut [f32], quad: Quad) {
 }
 
 // How many of the rows and corners of a list are those of the tag's starts.
-fn rows_own(rows: &[u64], corners: &[f32], count: usize, id: usize, quad: Quad) -> Tally {
+fn rows_own(rows: &[u64], corners: &[f32], count: usize, sheet: Sheet, quad: Quad) -> Tally {
     let mut tally = Tally::new();
     let mut i = 0;
     while i < count {
         tally = tally.count(
-            same(row_at(rows, corners, i), own(id, quad, (i % 4) as u8)),
+            same(row_at(rows, corners, i), own(sheet, quad, (i % 4) as u8)),
             i,
         );
         i += 1;
@@ -64,11 +65,19 @@ fn refused(number: u8) {
 
 // Prints how many rows of a list are right, or the refusal's number.
 fn listed(plane: &[u8], table: &[u64], sheet: Sheet, quad: Quad, quads: &[f32]) {
-    let mut rows = [9u64; 3075];
+    let mut rows = [9u64; 4100];
     let mut corners = [9.0f32; 8200];
     match read_list(plane, table, sheet, quads, &mut rows, &mut corners) {
         Listed::Refused(number) => refused(number),
-        Listed::Done(total) => report(b":", rows_own(&rows, &corners, total, sheet.id, quad)),
+        Listed::Done(total) => report(b":", rows_own(&rows, &corners, total, sheet, quad)),
+    }
+}
+
+fn say_length(misprinted: u8, n: usize) {
+    if misprinted == 0 {
+        say(b"  list of ", n as u64);
+    } else {
+        say(b"  misprinted, list of ", n as u64);
     }
 }
 
@@ -76,7 +85,7 @@ fn list_of(plane: &[u8], table: &[u64], sheet: Sheet, quad: Quad, count: usize) 
     let mut quads = [0.0f32; 8200];
     let n = least(count, 1025);
     put_starts(&mut quads, quad);
-    say(b"  list of ", n as u64);
+    say_length(sheet.misprinted, n);
     listed(plane, table, sheet, quad, &quads[0..8 * n]);
 }
 
@@ -98,9 +107,17 @@ fn painted_lists(plane: &mut [u8], table: &[u64], sheet: Sheet) {
     }
 }
 
-// Lists of one tag of a table.
-pub fn all(plane: &mut [u8], table: &[u64], number: u8) {
-    let sheet = sheet_of(number, 7, 2, 1, 0);
+fn sheet_lists(plane: &mut [u8], table: &[u64], sheet: Sheet) {
     let n = product(sheet.wide, sheet.wide, plane.len());
     painted_lists(&mut plane[0..n], table, sheet);
+}
+
+// Lists of one tag of a table, clean, and with the last of its misprints if it has any.
+pub fn all(plane: &mut [u8], table: &[u64], number: u8) {
+    let misprints = kinds::misprints_of(number);
+    sheet_lists(plane, table, sheet_of(number, 7, 2, 1, kinds::clean()));
+    if 0 < misprints {
+        let wrong = kinds::misprint(misprints - 1);
+        sheet_lists(plane, table, sheet_of(number, 7, 2, 1, wrong));
+    }
 }

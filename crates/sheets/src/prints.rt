@@ -16,27 +16,33 @@ use vectors::answers::found;
 use vectors::answers::same;
 use vectors::product;
 
-// What is painted: the table by its number and as it is lent, the code by its position, the word for it, the print, and the side of
-// the plane in pixels.
+// What is painted: the table by its number and as it is lent, the code by its position, the word for it, how many of the code's modules
+// are misprinted in it, the print, and the side of the plane in pixels.
 pub struct Sheet {
     pub number: u8,
     pub family: Family,
     pub id: usize,
     pub word: u64,
+    pub misprinted: u8,
     pub print: Print,
     pub wide: usize,
 }
 
-// What a start of the painter's quad is to be read as.
-pub fn own(id: usize, quad: Quad, start: u8) -> Answer {
-    found(id, (4 - start % 4) % 4, answer_corners(quad, 0))
+// What a start of the painter's quad is to be read as: with as many differing modules as were misprinted.
+pub fn own(sheet: Sheet, quad: Quad, start: u8) -> Answer {
+    found(
+        sheet.id,
+        (4 - start % 4) % 4,
+        sheet.misprinted,
+        answer_corners(quad, 0),
+    )
 }
 
 // Whether a start is read as demand 3 has it: with the table lent, and for a family by its number too.
 fn reads_own(plane: &[u8], codes: &[u64], sheet: Sheet, quad: Quad, start: u8) -> bool {
     let frame = refusals::packed_frame(sheet.wide, sheet.wide);
     let turned = rotate_left(quad, start);
-    let answer = own(sheet.id, quad, start);
+    let answer = own(sheet, quad, start);
     let lent = answer_of(try_decode_quad(plane, frame, sheet.family, codes, turned));
     if 5 <= sheet.number {
         return same(lent, answer);

@@ -10,11 +10,12 @@ use points::QUAD_SIZE;
 use points::Quad;
 use reader::Reading;
 
-// A refusal number, 0 where there is none, id, turn and corners.
+// A refusal number, 0 where there is none, id, turn, differing modules and corners.
 pub struct Answer {
     pub refusal: u64,
     pub id: u64,
     pub turn: u64,
+    pub differing: u64,
     pub corners: Quad,
 }
 
@@ -29,11 +30,12 @@ pub fn quad_of(x: f32) -> Quad {
     }
 }
 
-pub fn found(id: usize, turn: u8, corners: Quad) -> Answer {
+pub fn found(id: usize, turn: u8, differing: u8, corners: Quad) -> Answer {
     Answer {
         refusal: 0,
         id: id as u64,
         turn: turn as u64,
+        differing: differing as u64,
         corners,
     }
 }
@@ -43,13 +45,19 @@ pub fn refused(number: u8) -> Answer {
         refusal: number as u64,
         id: 0,
         turn: 0,
+        differing: 0,
         corners: quad_of(0.0),
     }
 }
 
 pub fn answer_of(reading: Reading) -> Answer {
     match reading {
-        Reading::Tag { id, turn, corners } => found(id, turn, corners),
+        Reading::Tag {
+            id,
+            turn,
+            differing,
+            corners,
+        } => found(id, turn, differing, corners),
         Reading::Refused(number) => refused(number),
     }
 }
@@ -67,6 +75,7 @@ pub fn row_at(rows: &[u64], corners: &[f32], q: usize) -> Answer {
         refusal: rows[at],
         id: rows[at + 1],
         turn: rows[at + 2],
+        differing: rows[at + 3],
         corners: points::quad_at(corners, q),
     }
 }
@@ -78,13 +87,14 @@ pub fn quad_at(s: &[u8]) -> Quad {
     points::quad_at(&numbers, 0)
 }
 
-// An answer of 36 bytes. Bytes that there are not are 0.
+// An answer of 37 bytes. Bytes that there are not are 0.
 pub fn answer_at(s: &[u8]) -> Answer {
     Answer {
         refusal: u8_at(s, 0) as u64,
         id: u16_at(s, 1) as u64,
         turn: u8_at(s, 3) as u64,
-        corners: quad_at(rest(s, 4)),
+        differing: u8_at(s, 4) as u64,
+        corners: quad_at(rest(s, 5)),
     }
 }
 
@@ -101,5 +111,9 @@ pub fn same_quad(a: Quad, b: Quad) -> bool {
 }
 
 pub fn same(a: Answer, b: Answer) -> bool {
-    (a.refusal == b.refusal) & (a.id == b.id) & (a.turn == b.turn) & same_quad(a.corners, b.corners)
+    (a.refusal == b.refusal)
+        & (a.id == b.id)
+        & (a.turn == b.turn)
+        & (a.differing == b.differing)
+        & same_quad(a.corners, b.corners)
 }

@@ -87,12 +87,12 @@ fn painting_alike(record: &[u8], layout: u8) -> bool {
     plane_alike(record, own, &mut plane[0..length])
 }
 
-// The four starts, with 36 bytes each.
+// The four starts, with 37 bytes each.
 fn starts_alike(s: &[u8], number: u8, plane: &[u8], frame: Frame, quad: Quad) -> bool {
     reading_alike(plane, frame, number, quad, s)
-        & reading_alike(plane, frame, number, rotate_left(quad, 1), rest(s, 36))
-        & reading_alike(plane, frame, number, rotate_left(quad, 2), rest(s, 72))
-        & reading_alike(plane, frame, number, rotate_left(quad, 3), rest(s, 108))
+        & reading_alike(plane, frame, number, rotate_left(quad, 1), rest(s, 37))
+        & reading_alike(plane, frame, number, rotate_left(quad, 2), rest(s, 74))
+        & reading_alike(plane, frame, number, rotate_left(quad, 3), rest(s, 111))
 }
 
 // Six numbers of one byte.

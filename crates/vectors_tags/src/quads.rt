@@ -27,7 +27,7 @@ ghost use mathlib.Core.Path.{_≡_};
 ghost use Prim.Native.Nat.{_<_, _≤_};
 ghost use lib.ListN.{length};
 
-// Whether a quad is read, in a family by its number, as the 36 bytes `s` say.
+// Whether a quad is read, in a family by its number, as the 37 bytes `s` say.
 pub fn reading_alike(plane: &[u8], frame: Frame, number: u8, quad: Quad, s: &[u8]) -> bool {
     answers::same(
         answer_of(try_decode_quad_in(plane, frame, number, quad)),
@@ -35,15 +35,17 @@ pub fn reading_alike(plane: &[u8], frame: Frame, number: u8, quad: Quad, s: &[u8
     )
 }
 
-// What row number q is to be after a list of `n` quads, with 36 bytes for each. What is past them is 7 as before the call.
+// What row number q is to be after a list of `n` quads, with 37 bytes for each: 32 and 4 and 1. What is past them is 7 as before the
+// call.
 fn expected(s: &[u8], q: usize, n: usize) -> Answer {
     if q < n {
-        return answer_at(rest(rest(s, q << 5), q << 2));
+        return answer_at(rest(rest(rest(s, q << 5), q << 2), q));
     }
     Answer {
         refusal: 7,
         id: 7,
         turn: 7,
+        differing: 7,
         corners: answers::quad_of(7.0),
     }
 }
@@ -68,7 +70,7 @@ fn listed_alike(
     rows: &mut [u64],
     corners: &mut [f32],
 ) -> bool
-    requires { ⌜ (n < 32) × ((length (now rows) ≡ 96) × (length (now corners) ≡ 256)) ⌝ }
+    requires { ⌜ (n < 32) × ((length (now rows) ≡ 128) × (length (now corners) ≡ 256)) ⌝ }
 {
     let listed = try_decode_quads_in(
         plane,
@@ -83,7 +85,7 @@ fn listed_alike(
 
 fn list_alike(frame: &[u8], plane: &[u8], picture: Frame) -> bool {
     let mut quads = [0.0f32; 248];
-    let mut rows = [7u64; 96];
+    let mut rows = [7u64; 128];
     let mut corners = [7.0f32; 256];
     let n = least(u8_at(frame, 2) as usize, 31);
     floats::fill(floats::EACH, 0, rest(frame, 3), &mut quads);
@@ -193,7 +195,7 @@ fn outputs_alike(
     rows: &mut [u64],
     corners: &mut [f32],
 ) -> bool
-    requires { ⌜ (length (now rows) ≡ 3076) × (length (now corners) ≡ 8201) ⌝ }
+    requires { ⌜ (length (now rows) ≡ 4100) × (length (now corners) ≡ 8201) ⌝ }
 {
     let codes = [0u64; 1];
     let family = Family {
@@ -201,7 +203,7 @@ fn outputs_alike(
         border: 2,
         hamming_distance: 1,
     };
-    let a = length_at(frame, 32, 3076);
+    let a = length_at(frame, 32, 4100);
     let b = length_at(frame, 34, 8201);
     let number = number_of(try_decode_quads(
         pixels,
@@ -219,7 +221,7 @@ fn outputs_alike(
 fn list_number_alike(frame: &[u8]) -> bool {
     let pixels = [9u8; 8200];
     let quads = [1.0f32; 8200];
-    let mut rows = [7u64; 3076];
+    let mut rows = [7u64; 4100];
     let mut corners = [7.0f32; 8201];
     let n = least(u32_at(frame, 25) as usize, 8200);
     let count = length_at(frame, 30, 8200);

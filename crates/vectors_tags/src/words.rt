@@ -31,7 +31,11 @@ fn turn_alike(frame: &[u8]) -> bool {
 // The answer of a search. It has no corners.
 fn found(bits: u64, table: Family, codes: &[u64]) -> Answer {
     match best_tag(bits, table.hamming_distance, codes, table.edge) {
-        Found::Tag { id, turn } => answers::found(id, turn, answers::quad_of(0.0)),
+        Found::Tag {
+            id,
+            turn,
+            differing,
+        } => answers::found(id, turn, differing, answers::quad_of(0.0)),
         Found::Refused(number) => answers::refused(number),
     }
 }
@@ -92,7 +96,8 @@ fn word_of(rule: u8, k: u64, last: u64, edge: u8, codes: &[u64]) -> Drawn {
 
 fn taken(digest: u64, answer: Answer) -> u64 {
     let a = vectors::digest_u8(digest, answer.refusal);
-    vectors::digest_u8(vectors::digest_u16(a, answer.id), answer.turn)
+    let b = vectors::digest_u8(vectors::digest_u16(a, answer.id), answer.turn);
+    vectors::digest_u8(b, answer.differing)
 }
 
 fn digest_alike(frame: &[u8], table: Family, codes: &[u64]) -> bool {

@@ -5,10 +5,10 @@ use Rattle.sheets.proofs.lists.rows_own.Statement.{statement}
 use Rattle.sheets.proofs.lists.rows_own.Tie as tie
 
 abbrev Inv-loop : tie.InvT-loop
-Inv-loop rows corners count id quad tally₀ i₀ tally i = Unit {0}
+Inv-loop rows corners count sheet quad tally₀ i₀ tally i = Unit {0}
 
 abbrev μ-loop : tie.MeasureT-loop
-μ-loop rows corners count id quad tally₀ i₀ tally i = count - i
+μ-loop rows corners count sheet quad tally₀ i₀ tally i = count - i
 
 pub rows-own-spec : {M : Type 1} → statement M
 rows-own-spec =

@@ -2,6 +2,7 @@
 use lib.ListN.{length}
 use Prim.Native.Nat.{_-_, _/_}
 use borrow.Author.Needs.{needs}
+use Rattle.listing.specs.Listing.{rowSize}
 use Rattle.vectors_tags.proofs.quads.rows_alike.Statement.{statement}
 use Rattle.vectors_tags.proofs.quads.rows_alike.Tie as tie
 
@@ -9,7 +10,7 @@ abbrev Inv-loop : tie.InvT-loop
 Inv-loop s n rows corners alike₀ q₀ alike q = Unit {0}
 
 abbrev μ-loop : tie.MeasureT-loop
-μ-loop s n rows corners alike₀ q₀ alike q = length rows / 3 - q
+μ-loop s n rows corners alike₀ q₀ alike q = length rows / rowSize - q
 
 pub rows-alike-spec : {M : Type 1} → statement M
 rows-alike-spec =
