@@ -49,7 +49,7 @@
  *   14  painting word of 2^(edge²) or more, cell outside 1..64 pixels, turn above 3, light less than 50 above dark, or a tag that
  *       does not end at least one pixel before the right and lower edges
  *   15  no levels, or more than 64; for a centre, a sum or count of 2^24 or more, or a count of 0
- *   16  quad list not a multiple of 8 numbers or above 1,024 quads, or an output shorter than three numbers and eight corner
+ *   16  quad list not a multiple of 8 numbers or above 1,024 quads, or an output shorter than four numbers and eight corner
  *       numbers a quad
  */
 #ifndef MUOSLEAP_H
@@ -72,10 +72,11 @@ uint32_t muosleap_rotate_bits(uint64_t bits, uint8_t edge, uint64_t *word);
 /*
  * The code that a word shows, and the first turn, 0 to 3, at which it differs from a code in fewer bits than the match threshold.
  * Refusals: 6 (the border is not lent and not tested), 13.
- * id: the code's position from 0. turn: the turn.
+ * id: the code's position from 0. turn: the turn. differing: in how many bits the code differs from the word turned so often; it is
+ * below the match threshold, so 63 at most. Bits above the square count too, at turn 0 alone: a turned word has none.
  */
 uint32_t muosleap_best_tag(uint64_t bits, uint8_t hamming_distance, const uint64_t *codes, size_t codes_count, uint8_t edge,
-                           size_t *id, uint8_t *turn);
+                           size_t *id, uint8_t *turn, uint8_t *differing);
 
 /*
  * Whether a table can be read one way only: with the match threshold t, each code has at least t ones and t zeros in its square,
@@ -96,24 +97,27 @@ uint32_t muosleap_bit_code(const uint8_t *levels, size_t levels_count, uint8_t b
 /*
  * The tag at a quad of an 8-bit plane, read with a lent table.
  * Refusals: 1, 6, 8, 9, 10, 11, 12, 13.
- * quad: eight numbers. id, turn: as of muosleap_best_tag. corners: eight numbers, the quad turned left by the turn, then reversed.
+ * quad: eight numbers. id, turn: as of muosleap_best_tag. differing: how many modules differ from the tag's code, below the match
+ * threshold. It tells wear: a clean tag reads 0. corners: eight numbers, the quad turned left by the turn, then reversed.
  */
 uint32_t muosleap_try_decode_quad(const uint8_t *plane, size_t plane_count, size_t width, size_t height, size_t pitch,
                                   uint8_t edge, uint8_t border, uint8_t hamming_distance, const uint64_t *codes,
-                                  size_t codes_count, const float quad[8], size_t *id, uint8_t *turn, float corners[8]);
+                                  size_t codes_count, const float quad[8], size_t *id, uint8_t *turn, uint8_t *differing,
+                                  float corners[8]);
 
 /*
  * The same by family number.
  * Refusals: 1, 6 (no such family), 8, 9, 10, 11, 12, 13.
  */
 uint32_t muosleap_try_decode_quad_in(const uint8_t *plane, size_t plane_count, size_t width, size_t height, size_t pitch,
-                                     uint8_t family, const float quad[8], size_t *id, uint8_t *turn, float corners[8]);
+                                     uint8_t family, const float quad[8], size_t *id, uint8_t *turn, uint8_t *differing,
+                                     float corners[8]);
 
 /*
  * Each quad of a list read by itself with a lent table.
  * Refusals: 1, 6, 16. The refusals of a single quad, 8 to 13, stand in its row, and the call is accepted.
- * quads: eight numbers a quad. rows: three numbers a quad, which are its refusal or 0, its id and its turn. corners: eight numbers a
- * quad. The id, the turn and the corners of a refused quad are 0.
+ * quads: eight numbers a quad. rows: four numbers a quad, which are its refusal or 0, its id, its turn and its differing modules.
+ * corners: eight numbers a quad. A refused quad's row is 0 but for the refusal, and its corners are 0.
  */
 uint32_t muosleap_try_decode_quads(const uint8_t *plane, size_t plane_count, size_t width, size_t height, size_t pitch,
                                    uint8_t edge, uint8_t border, uint8_t hamming_distance, const uint64_t *codes,

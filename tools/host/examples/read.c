@@ -22,25 +22,25 @@ static void accepted(const char *call, uint32_t refusal)
     }
 }
 
-/* Paints the code 0xd5d628584, tag 0 of T36H11, 8 pixels a module, and reads it. The picture is as a camera sends it that pads its
-   lines: one starts every 192 bytes, and behind each but the last are 32 bytes of filler, which neither call reads or writes. For a
-   picture without filler the pitch is the width. */
+/* Paints the code 0xd5d628584, tag 0 of T36H11, 8 pixels a module, with its last module misprinted, and reads it. The reading says
+   how many modules differ. The picture is as a camera sends it that pads its lines: one starts every 192 bytes, and behind each but
+   the last are 32 bytes of filler, which neither call reads or writes. For a picture without filler the pitch is the width. */
 static void read_painted_tag(void)
 {
     static uint8_t picture[PITCH * (HEIGHT - 1) + WIDTH];
     float quad[8] = {0}, started[8] = {0}, corners[8] = {0};
     size_t id = 0;
-    uint8_t turn = 0;
+    uint8_t turn = 0, differing = 0;
 
-    accepted("paint", muosleap_paint_tag_in(picture, sizeof picture, WIDTH, HEIGHT, PITCH, T36H11, 0xd5d628584,
+    accepted("paint", muosleap_paint_tag_in(picture, sizeof picture, WIDTH, HEIGHT, PITCH, T36H11, 0xd5d628584 ^ 1,
                                             /* place */ 40, 20, /* cell */ 8, /* turn */ 0, /* light, dark */ 220, 30, quad));
     for (int start = 0; start < 4; start++) {
         for (int k = 0; k < 8; k++)
             started[k] = quad[(k + 2 * start) % 8];
         accepted("read", muosleap_try_decode_quad_in(picture, sizeof picture, WIDTH, HEIGHT, PITCH, T36H11, started, &id, &turn,
-                                                     corners));
-        printf("start %d: tag %zu, turn %u, first corner of the print (%.1f, %.1f)\n", start, id, (unsigned)turn,
-               corners[6], corners[7]);
+                                                     &differing, corners));
+        printf("start %d: tag %zu, turn %u, differing modules %u, first corner of the print (%.1f, %.1f)\n", start, id,
+               (unsigned)turn, (unsigned)differing, corners[6], corners[7]);
     }
 }
 

@@ -45,8 +45,8 @@ crossing! {
     /// The word turned once. Refusal 6.
     fn rotate_bits(bits: u64, edge: u8, word: &mut u64);
 
-    /// The code that a word shows, and at which turn. Refusals 6, 13.
-    fn best_tag(bits: u64, hamming_distance: u8, codes: &[u64], edge: u8, id: &mut usize, turn: &mut u8);
+    /// The code that a word shows, at which turn, and in how many bits it differs. Refusals 6, 13.
+    fn best_tag(bits: u64, hamming_distance: u8, codes: &[u64], edge: u8, id: &mut usize, turn: &mut u8, differing: &mut u8);
 
     /// Whether a table can be read one way only. Refusals 6, 7.
     fn check_likeness(edge: u8, border: u8, hamming_distance: u8, codes: &[u64]);
@@ -57,22 +57,23 @@ crossing! {
     /// A reading of one quad with a lent table. Refusals 1, 6, 8 to 13.
     fn try_decode_quad(
         plane: &[u8], width: usize, height: usize, pitch: usize, edge: u8, border: u8, hamming_distance: u8, codes: &[u64],
-        quad: &[f32; 8], id: &mut usize, turn: &mut u8, corners: &mut [f32; 8]
+        quad: &[f32; 8], id: &mut usize, turn: &mut u8, differing: &mut u8, corners: &mut [f32; 8]
     );
 
     /// A reading of one quad by family number. Refusals 1, 6, 8 to 13.
     fn try_decode_quad_in(
         plane: &[u8], width: usize, height: usize, pitch: usize, family: u8, quad: &[f32; 8], id: &mut usize, turn: &mut u8,
-        corners: &mut [f32; 8]
+        differing: &mut u8, corners: &mut [f32; 8]
     );
 
-    /// A reading of a list of quads with a lent table. Refusals 1, 6, 16; 8 to 13 stand in rows.
+    /// A reading of a list of quads with a lent table, as rows of refusal, id, turn, differing modules. Refusals 1, 6, 16; 8 to 13
+    /// stand in rows.
     fn try_decode_quads(
         plane: &[u8], width: usize, height: usize, pitch: usize, edge: u8, border: u8, hamming_distance: u8, codes: &[u64],
         quads: &[f32], rows: &mut [u64], corners: &mut [f32]
     );
 
-    /// A reading of a list of quads by family number. Refusals 1, 6, 16; 8 to 13 stand in rows.
+    /// A reading of a list of quads by family number, as such rows. Refusals 1, 6, 16; 8 to 13 stand in rows.
     fn try_decode_quads_in(
         plane: &[u8], width: usize, height: usize, pitch: usize, family: u8, quads: &[f32], rows: &mut [u64], corners: &mut [f32]
     );

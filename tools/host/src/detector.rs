@@ -1,4 +1,18 @@
 //! Words, levels and quads.
+//!
+//! # Wear
+//!
+//! Each answer says in how many modules the tag differs from its code: [`Tag::differing`], 0 for a clean tag. Where the number of a
+//! sheet's tag rises from picture to picture, the tag is wearing out or getting dirty, and can be cleaned or replaced before it
+//! fails: it is read as long as it differs in fewer modules than the match threshold of its table, and no longer.
+//!
+//! | family | match threshold | `differing` of a tag that is read |
+//! |---|---|---|
+//! | T16H5 | 1 | 0: one differing module is one too many, so these tags give no warning |
+//! | T25H7, T25H9 | 2 | 0 or 1 |
+//! | T36H11, T36H11B1 | 3 | 0, 1 or 2 |
+//!
+//! It is the picture that is read: a module that glare or noise turns counts as one that is worn.
 
 use crate::refusal::accepted;
 use crate::{Family, Picture, Quad, Refusal, Table, c};
@@ -11,6 +25,9 @@ pub struct Found {
     pub id: usize,
     /// How often the word was turned to meet the code, 0 to 3.
     pub turn: u8,
+    /// In how many bits the code differs from the word turned so often: below the match threshold, so 63 at most. Bits above the
+    /// square count too, at turn 0 alone: a turned word has none.
+    pub differing: u8,
 }
 
 /// A tag that was read.
@@ -21,6 +38,9 @@ pub struct Tag {
     pub id: usize,
     /// How the quad was begun: turns from the quad's first corner to the print's, 0 to 3.
     pub turn: u8,
+    /// How many modules differ from the tag's code, whatever corner the quad began with: 0 for a clean tag, and always below the
+    /// match threshold. It tells [wear](self#wear).
+    pub differing: u8,
     /// The quad's corners in print order, whatever corner the quad began with.
     pub corners: Quad,
 }
@@ -67,11 +87,19 @@ impl Table<'_> {
     /// assert_eq!(read(0x231B), Ok((0, 0)));
     /// assert_eq!(read(0x7D01), Ok((0, 3)));
     /// assert_eq!(read(0x231A), Err(Refusal::NoCode));
+    ///
+    /// // A match threshold of 3 takes up to two misprinted modules.
+    /// let table = Family::T36H11.table();
+    /// let differing = |word: u64| table.best_tag(word).map(|found| found.differing);
+    /// assert_eq!(differing(table.codes[7]), Ok(0));
+    /// assert_eq!(differing(table.codes[7] ^ 1 << 20), Ok(1));
+    /// assert_eq!(differing(table.codes[7] ^ 1 << 20 ^ 1 << 35), Ok(2));
+    /// assert_eq!(differing(table.codes[7] ^ 1 << 20 ^ 1 << 35 ^ 1), Err(Refusal::NoCode));
     /// ```
     pub fn best_tag(&self, bits: u64) -> Result<Found, Refusal> {
-        let (mut id, mut turn) = (0, 0);
-        accepted(c::best_tag(bits, self.hamming_distance, self.codes, self.edge, &mut id, &mut turn))?;
-        Ok(Found { id, turn })
+        let (mut id, mut turn, mut differing) = (0, 0, 0);
+        accepted(c::best_tag(bits, self.hamming_distance, self.codes, self.edge, &mut id, &mut turn, &mut differing))?;
+        Ok(Found { id, turn, differing })
     }
 
     /// Whether every word that is near a code is near one code only, and in one turn. Check a list of your own once, before its
@@ -91,15 +119,23 @@ impl Table<'_> {
     /// Reads the tag in a quad of a picture. Refusals 1, 6, 8 to 13.
     ///
     /// ```
-    /// use muosleap::{Picture, Quad, Refusal, Table};
+    /// use muosleap::{Picture, Print, Refusal, Table, painter::paint_tag};
     ///
-    /// let table = Table { edge: 4, border: 1, hamming_distance: 1, codes: &[0x231B] };
-    /// let quad = Quad::from([0.5, 0.5, 18.5, 0.5, 18.5, 18.5, 0.5, 18.5]);
+    /// let table = Table { edge: 4, border: 1, hamming_distance: 2, codes: &[0x231B] };
+    /// let mut picture = Picture::packed([0; 400], 20, 20);
+    /// let print = Print { x: 1, y: 1, cell: 3, turn: 2, light: 220, dark: 30 };
+    ///
+    /// // The last module is misprinted.
+    /// let quad = paint_tag(&mut picture, 4, 1, 0x231B ^ 1, &print)?;
+    /// let tag = table.try_decode_quad(&picture, &quad)?;
+    /// assert_eq!((tag.id, tag.turn, tag.differing), (0, 0, 1));
+    ///
     /// assert_eq!(table.try_decode_quad(&Picture::packed([128; 400], 20, 20), &quad), Err(Refusal::LowContrast));
     /// assert_eq!(table.try_decode_quad(&Picture::packed([128; 399], 20, 20), &quad), Err(Refusal::PlaneSize));
+    /// # Ok::<(), Refusal>(())
     /// ```
     pub fn try_decode_quad(&self, picture: &Picture<impl AsRef<[u8]>>, quad: &Quad) -> Result<Tag, Refusal> {
-        let (mut id, mut turn, mut corners) = (0, 0, [0.0; 8]);
+        let (mut id, mut turn, mut differing, mut corners) = (0, 0, 0, [0.0; 8]);
         accepted(c::try_decode_quad(
             picture.bytes.as_ref(),
             picture.width,
@@ -112,20 +148,27 @@ impl Table<'_> {
             &(*quad).into(),
             &mut id,
             &mut turn,
+            &mut differing,
             &mut corners,
         ))?;
-        Ok(Tag { id, turn, corners: corners.into() })
+        Ok(Tag { id, turn, differing, corners: corners.into() })
     }
 
     /// Reads a list of quads: for each quad its tag, or why it was refused (8 to 13). The call's own refusals: 1, 6, 16.
     ///
     /// ```
-    /// use muosleap::{Picture, Quad, Refusal, Table};
+    /// use muosleap::{Picture, Print, Quad, Refusal, Table, painter::paint_tag};
     ///
-    /// let table = Table { edge: 4, border: 1, hamming_distance: 1, codes: &[0x231B] };
-    /// let picture = Picture::packed([128; 400], 20, 20);
-    /// let rows = table.try_decode_quads(&picture, &[Quad::from([0.0; 8]), Quad::from([20.0; 8])]);
-    /// assert_eq!(rows, Ok(vec![Err(Refusal::LowContrast), Err(Refusal::CornerOutside)]));
+    /// let table = Table { edge: 4, border: 1, hamming_distance: 2, codes: &[0x231B] };
+    /// let mut picture = Picture::packed([0; 400], 20, 20);
+    /// let print = Print { x: 1, y: 1, cell: 3, turn: 0, light: 220, dark: 30 };
+    ///
+    /// // A tag with a misprinted module, read from its first corner and from its third.
+    /// let quad = paint_tag(&mut picture, 4, 1, 0x231B ^ 1, &print)?;
+    /// let rows = table.try_decode_quads(&picture, &[quad, quad.started(2), Quad::from([0.0; 8]), Quad::from([20.0; 8])])?;
+    /// assert_eq!(rows[..2].iter().flatten().map(|tag| (tag.turn, tag.differing)).collect::<Vec<_>>(), [(0, 1), (2, 1)]);
+    /// assert_eq!(rows[2..], [Err(Refusal::LowContrast), Err(Refusal::CornerOutside)]);
+    /// # Ok::<(), Refusal>(())
     /// ```
     pub fn try_decode_quads(
         &self,
@@ -161,13 +204,20 @@ impl Family {
     /// let print = Print { x: 3, y: 2, cell: 3, turn: 0, light: 200, dark: 20 };
     /// let quad = family.paint_tag(&mut picture, family.codes()[34], &print)?;
     /// let tag = family.try_decode_quad(&picture, &quad)?;
-    /// assert_eq!((tag.id, tag.turn), (34, 0));
+    /// assert_eq!((tag.id, tag.turn, tag.differing), (34, 0, 0));
     /// // Another family does not know it.
     /// assert_eq!(Family::T25H7.try_decode_quad(&picture, &quad), Err(Refusal::NoCode));
+    ///
+    /// // One misprinted module is read and told, a second one is too many for this family.
+    /// family.paint_tag(&mut picture, family.codes()[34] ^ 1 << 12, &print)?;
+    /// let tag = family.try_decode_quad(&picture, &quad)?;
+    /// assert_eq!((tag.id, tag.turn, tag.differing), (34, 0, 1));
+    /// family.paint_tag(&mut picture, family.codes()[34] ^ 1 << 12 ^ 1 << 3, &print)?;
+    /// assert_eq!(family.try_decode_quad(&picture, &quad), Err(Refusal::NoCode));
     /// # Ok::<(), Refusal>(())
     /// ```
     pub fn try_decode_quad(self, picture: &Picture<impl AsRef<[u8]>>, quad: &Quad) -> Result<Tag, Refusal> {
-        let (mut id, mut turn, mut corners) = (0, 0, [0.0; 8]);
+        let (mut id, mut turn, mut differing, mut corners) = (0, 0, 0, [0.0; 8]);
         let quad = (*quad).into();
         accepted(c::try_decode_quad_in(
             picture.bytes.as_ref(),
@@ -178,9 +228,10 @@ impl Family {
             &quad,
             &mut id,
             &mut turn,
+            &mut differing,
             &mut corners,
         ))?;
-        Ok(Tag { id, turn, corners: corners.into() })
+        Ok(Tag { id, turn, differing, corners: corners.into() })
     }
 
     /// Reads a list of quads: for each quad its tag, or why it was refused (8 to 13). The call's own refusals: 1, 16.
@@ -188,13 +239,15 @@ impl Family {
     /// ```
     /// use muosleap::{Family, Picture, Print, Quad, Refusal};
     ///
-    /// let family = Family::T16H5;
-    /// let mut picture = Picture::packed(vec![0; 40 * 40], 40, 40);
+    /// // A tag with two misprinted modules.
+    /// let family = Family::T36H11;
+    /// let mut picture = Picture::packed(vec![0; 50 * 50], 50, 50);
     /// let print = Print { x: 4, y: 4, cell: 4, turn: 0, light: 200, dark: 20 };
-    /// let quad = family.paint_tag(&mut picture, family.codes()[9], &print)?;
-    /// let outside = Quad::from([0.0, 0.0, 40.0, 0.0, 40.0, 40.0, 0.0, 40.0]);
+    /// let quad = family.paint_tag(&mut picture, family.codes()[9] ^ 1 << 3 ^ 1 << 30, &print)?;
+    /// let outside = Quad::from([0.0, 0.0, 50.0, 0.0, 50.0, 50.0, 0.0, 50.0]);
     /// let rows = family.try_decode_quads(&picture, &[quad, outside])?;
-    /// assert_eq!(rows[0].unwrap().id, 9);
+    /// let tag = rows[0].unwrap();
+    /// assert_eq!((tag.id, tag.differing), (9, 2));
     /// assert_eq!(rows[1], Err(Refusal::CornerOutside));
     /// # Ok::<(), Refusal>(())
     /// ```
@@ -216,12 +269,12 @@ fn listed(
     read: impl FnOnce(&[f32], &mut [u64], &mut [f32]) -> u32,
 ) -> Result<Vec<Result<Tag, Refusal>>, Refusal> {
     let numbers: Vec<[f32; 8]> = quads.iter().map(|&quad| quad.into()).collect();
-    let mut rows = vec![[0u64; 3]; quads.len()];
+    let mut rows = vec![[0u64; 4]; quads.len()];
     let mut corners = vec![[0f32; 8]; quads.len()];
     accepted(read(numbers.as_flattened(), rows.as_flattened_mut(), corners.as_flattened_mut()))?;
-    let read = |([refusal, id, turn], corners): ([u64; 3], [f32; 8])| {
+    let read = |([refusal, id, turn, differing], corners): ([u64; 4], [f32; 8])| {
         accepted(refusal as u32)?;
-        Ok(Tag { id: id as usize, turn: turn as u8, corners: corners.into() })
+        Ok(Tag { id: id as usize, turn: turn as u8, differing: differing as u8, corners: corners.into() })
     };
     Ok(rows.into_iter().zip(corners).map(read).collect())
 }

@@ -5,7 +5,7 @@
 //! tables. It also has the few host parts that the proved code leaves to Rust: [`image_util::kernel`], [`image_util::to_unit`].
 //!
 //! - [`Picture`]: an 8-bit picture, with or without filler behind its lines.
-//! - [`detector`]: words, levels and quads, by [`Family`] or by a [`Table`] of your own.
+//! - [`detector`]: words, levels and quads, by [`Family`] or by a [`Table`] of your own; and how a tag's [wear](detector#wear) shows.
 //! - [`image_util`]: blur, response, threshold, clusters and their centres.
 //! - [`painter`]: paints a tag. [`sheet`]: a grid of them, in Rust over the painter.
 //! - [`c`]: the C interface as it crosses, for hosts that keep their own buffers.
@@ -21,7 +21,7 @@
 //!
 //! // Read it again, starting at its second corner.
 //! let tag = family.try_decode_quad(&picture, &quad.started(1))?;
-//! assert_eq!((tag.id, tag.turn), (7, 3));
+//! assert_eq!((tag.id, tag.turn, tag.differing), (7, 3, 0));
 //! # Ok::<(), muosleap::Refusal>(())
 //! ```
 

@@ -99,7 +99,7 @@ refusals! {
         "no levels, or more than 64; for a centre, a sum or count of 2^24 or more, or a count of 0",
         "lend 1 to 64 levels; leave such a cluster out";
     16 ListLength:
-        "quad list not a multiple of 8 numbers or above 1,024 quads, or an output shorter than three numbers and eight corner \
+        "quad list not a multiple of 8 numbers or above 1,024 quads, or an output shorter than four numbers and eight corner \
          numbers a quad",
         "lend whole quads in lists of at most 1,024, and outputs that are long enough";
 }

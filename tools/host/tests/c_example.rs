@@ -4,10 +4,10 @@ use std::path::Path;
 use std::process::Command;
 
 const EXPECTED: &str = "\
-start 0: tag 0, turn 0, first corner of the print (39.5, 19.5)
-start 1: tag 0, turn 3, first corner of the print (39.5, 19.5)
-start 2: tag 0, turn 2, first corner of the print (39.5, 19.5)
-start 3: tag 0, turn 1, first corner of the print (39.5, 19.5)
+start 0: tag 0, turn 0, differing modules 1, first corner of the print (39.5, 19.5)
+start 1: tag 0, turn 3, differing modules 1, first corner of the print (39.5, 19.5)
+start 2: tag 0, turn 2, differing modules 1, first corner of the print (39.5, 19.5)
+start 3: tag 0, turn 1, differing modules 1, first corner of the print (39.5, 19.5)
 saddle point at (15.5, 15.5), from 12 samples
 ";
 

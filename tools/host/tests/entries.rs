@@ -76,13 +76,15 @@ fn families_are_their_tables() {
         let side = 2 * (table.edge + 2 * table.border) as usize + 3;
         let mut picture = Picture::packed(vec![0; side * side], side, side);
         let mut again = picture.clone();
-        let id = table.codes.len() - 1;
-        let quad = paint_tag(&mut picture, table.edge, table.border, table.codes[id], &PRINT).unwrap();
-        assert_eq!(family.paint_tag(&mut again, table.codes[id], &PRINT), Ok(quad));
+        // As many misprinted modules as are read.
+        let (id, misprinted) = (table.codes.len() - 1, table.hamming_distance - 1);
+        let word = table.codes[id] ^ ((1 << misprinted) - 1);
+        let quad = paint_tag(&mut picture, table.edge, table.border, word, &PRINT).unwrap();
+        assert_eq!(family.paint_tag(&mut again, word, &PRINT), Ok(quad));
         assert_eq!(picture.bytes, again.bytes);
         for start in 0..4 {
             let tag = family.try_decode_quad(&picture, &quad.started(start)).unwrap();
-            assert_eq!((tag.id, tag.turn as usize), (id, (4 - start) % 4));
+            assert_eq!((tag.id, tag.turn as usize, tag.differing), (id, (4 - start) % 4, misprinted));
             assert_eq!(table.try_decode_quad(&picture, &quad.started(start)), Ok(tag));
         }
         assert_eq!(table.check_likeness(), Ok(()));

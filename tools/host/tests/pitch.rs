@@ -1,26 +1,13 @@
 //! Padded lines. Refusal 1 at the limits of sides, pitch and length, for all six functions that take an 8-bit plane; and
 //! whatever the filler holds, a plane reads and paints as its lines without filler do, and its filler stays.
 
+mod numbers;
+
 use muosleap::image_util::{Saddles, kernel, to_unit};
 use muosleap::sheet::Sheet;
 use muosleap::{FAMILIES, Family, Picture, Print, Quad, Refusal, Shape, Table, c};
+use numbers::Numbers;
 use std::collections::BTreeSet;
-
-/// Xorshift numbers.
-struct Numbers(u64);
-
-impl Numbers {
-    fn next(&mut self) -> u64 {
-        self.0 ^= self.0 << 13;
-        self.0 ^= self.0 >> 7;
-        self.0 ^= self.0 << 17;
-        self.0
-    }
-
-    fn bytes(&mut self, count: usize) -> Vec<u8> {
-        (0..count).map(|_| (self.next() >> 32) as u8).collect()
-    }
-}
 
 /// The number of bytes, the width, the height and the pitch that a call is given.
 #[derive(Clone, Copy, Debug)]
@@ -51,19 +38,20 @@ impl Given {
     fn answers(self, plane: &[u8], quad: &[f32; 8], numbers: usize, print: u8) -> [u32; 6] {
         let Given(_, width, height, pitch) = self;
         let (mut lent, list) = (plane.to_vec(), &quad[..numbers]);
-        let (mut id, mut turn, mut eight) = (77, 88, [0.5; 8]);
-        let (mut rows, mut corners) = ([99; 3], [1.5; 8]);
+        let (mut id, mut turn, mut differing, mut eight) = (77, 88, 66, [0.5; 8]);
+        let (mut rows, mut corners) = ([99; 4], [1.5; 8]);
         let codes = Family::T16H5.codes();
         let answers = [
-            c::try_decode_quad(plane, width, height, pitch, 4, 2, 1, codes, quad, &mut id, &mut turn, &mut eight),
-            c::try_decode_quad_in(plane, width, height, pitch, 0, quad, &mut id, &mut turn, &mut eight),
+            c::try_decode_quad(plane, width, height, pitch, 4, 2, 1, codes, quad, &mut id, &mut turn, &mut differing, &mut eight),
+            c::try_decode_quad_in(plane, width, height, pitch, 0, quad, &mut id, &mut turn, &mut differing, &mut eight),
             c::try_decode_quads(plane, width, height, pitch, 4, 2, 1, codes, list, &mut rows, &mut corners),
             c::try_decode_quads_in(plane, width, height, pitch, 0, list, &mut rows, &mut corners),
             c::paint_tag(&mut lent, width, height, pitch, 4, 2, 0x231B, 0, 0, 1, print, 210, 20, &mut eight),
             c::paint_tag_in(&mut lent, width, height, pitch, 0, 0x231B, 0, 0, 1, print, 210, 20, &mut eight),
         ];
         assert!(lent == plane, "{self:?}: a refused call painted");
-        assert_eq!((id, turn, eight, rows, corners), (77, 88, [0.5; 8], [99; 3], [1.5; 8]), "{self:?}");
+        assert_eq!((id, turn, differing, eight), (77, 88, 66, [0.5; 8]), "{self:?}");
+        assert_eq!((rows, corners), ([99; 4], [1.5; 8]), "{self:?}");
         answers
     }
 
@@ -233,13 +221,14 @@ fn read_alone(picture: &Picture<Vec<u8>>, family: Family, quad: &[f32; 8]) -> Ve
     let Table { edge, border, hamming_distance, codes } = family.table();
     let mut all = Vec::new();
     for lent in [false, true] {
-        let (mut id, mut turn, mut out) = (77, 88, [0.5; 8]);
+        let (mut id, mut turn, mut differing, mut out) = (77, 88, 66, [0.5; 8]);
+        let (id, turn, differing, number) = (&mut id, &mut turn, &mut differing, family.number());
         all.push(if lent {
-            c::try_decode_quad(bytes, w, h, stride, edge, border, hamming_distance, codes, quad, &mut id, &mut turn, &mut out)
+            c::try_decode_quad(bytes, w, h, stride, edge, border, hamming_distance, codes, quad, id, turn, differing, &mut out)
         } else {
-            c::try_decode_quad_in(bytes, w, h, stride, family.number(), quad, &mut id, &mut turn, &mut out)
+            c::try_decode_quad_in(bytes, w, h, stride, number, quad, id, turn, differing, &mut out)
         } as u64);
-        all.extend([id as u64, turn as u64]);
+        all.extend([*id as u64, *turn as u64, *differing as u64]);
         all.extend(out.map(|number| number.to_bits() as u64));
     }
     all
@@ -251,7 +240,7 @@ fn read_list(picture: &Picture<Vec<u8>>, family: Family, quads: &[[f32; 8]]) -> 
     let Table { edge, border, hamming_distance, codes } = family.table();
     let mut all = Vec::new();
     for lent in [false, true] {
-        let (mut rows, mut out) = (vec![77; 3 * quads.len() + 2], vec![0.5; 8 * quads.len() + 2]);
+        let (mut rows, mut out) = (vec![77; 4 * quads.len() + 2], vec![0.5; 8 * quads.len() + 2]);
         let quads = quads.as_flattened();
         all.push(if lent {
             c::try_decode_quads(bytes, w, h, stride, edge, border, hamming_distance, codes, quads, &mut rows, &mut out)
@@ -269,13 +258,15 @@ fn read(picture: &Picture<Vec<u8>>, family: Family, quads: &[[f32; 8]]) -> [Vec<
     [quads.iter().flat_map(|quad| read_alone(picture, family, quad)).collect(), read_list(picture, family, quads)]
 }
 
-/// A painted tag, one with a pixel for each module, pictures that are refused at its quad; and quads to be read in them.
+/// A painted tag with as many misprinted modules as are read, one with a pixel for each module, pictures that are refused at its
+/// quad; and quads to be read in them.
 fn scenes(family: Family) -> (Vec<Picture<Vec<u8>>>, Vec<[f32; 8]>) {
     let (width, height) = (47, 41);
     let mut painted = Picture::packed(vec![0; width * height], width, height);
     let mut small = painted.clone();
     let print = Print { x: 12, y: 4, cell: 3, turn: 1, light: 210, dark: 40 };
-    let quad = family.paint_tag(&mut painted, family.codes()[5], &print).unwrap();
+    let misprinted = (1 << (family.table().hamming_distance - 1)) - 1;
+    let quad = family.paint_tag(&mut painted, family.codes()[5] ^ misprinted, &print).unwrap();
     let small_quad = family.paint_tag(&mut small, family.codes()[6], &Print { cell: 1, ..print }).unwrap();
     let change = |change: &dyn Fn(usize, u8) -> u8| {
         let bytes = painted.bytes.iter().enumerate().map(|(place, &level)| change(place, level)).collect();
@@ -310,7 +301,7 @@ fn padded_pictures_read_as_packed_ones() {
         let (pictures, quads) = scenes(family);
         for picture in pictures {
             let packed = read(&picture, family, &quads);
-            seen.extend(packed[0].chunks(11).map(|answer| answer[0]));
+            seen.extend(packed[0].chunks(12).map(|answer| (answer[0], answer[3])));
             for stride in pitches(picture.width) {
                 for (kind, padded) in padded(&picture, stride).iter().enumerate() {
                     let before = padded.bytes.clone();
@@ -321,7 +312,9 @@ fn padded_pictures_read_as_packed_ones() {
             }
         }
     }
-    assert_eq!(seen.into_iter().collect::<Vec<u64>>(), [0, 8, 9, 10, 11, 12, 13]);
+    // Refusals, and differing modules, which stay as they were where a quad is refused.
+    let refused = [8, 9, 10, 11, 12, 13].map(|number| (number, 66));
+    assert_eq!(Vec::from_iter(seen), [&[(0, 0), (0, 1), (0, 2)], &refused[..]].concat());
 }
 
 /// Both painters on a picture, with the answer and the bits of the quad.

@@ -39,13 +39,13 @@ impl Lines {
     }
 }
 
-/// A row as numbers: refusal, id, turn, bits of the corners.
-type Row = (u32, usize, u8, [u32; 8]);
+/// A row as numbers: refusal, id, turn, differing modules, bits of the corners.
+type Row = (u32, usize, u8, u8, [u32; 8]);
 
 fn row(reading: Result<Tag, Refusal>) -> Row {
     match reading {
-        Ok(tag) => (0, tag.id, tag.turn, <[f32; 8]>::from(tag.corners).map(f32::to_bits)),
-        Err(refusal) => (refusal.number(), 0, 0, [0; 8]),
+        Ok(tag) => (0, tag.id, tag.turn, tag.differing, <[f32; 8]>::from(tag.corners).map(f32::to_bits)),
+        Err(refusal) => (refusal.number(), 0, 0, 0, [0; 8]),
     }
 }
 
@@ -63,8 +63,8 @@ fn read_all(picture: &quads::Picture, corners: &[quads::Quad], lines: &mut Lines
     let listed = family.try_decode_quads(&lent, &ours).unwrap();
     let listed_by_table = family.table().try_decode_quads(&lent, &ours).unwrap();
     for (k, quad) in ours.iter().enumerate() {
-        let (refusal, id, turn, corners) = picture.read(clear[k]);
-        let original = (refusal as u32, id, turn, <[f32; 8]>::from(quad_of(&corners)).map(f32::to_bits));
+        let (refusal, id, turn, differing, corners) = picture.read(clear[k]);
+        let original = (refusal as u32, id, turn, differing, <[f32; 8]>::from(quad_of(&corners)).map(f32::to_bits));
         let input = || format!("{family:?}, {} x {}, pitch {}, {quad:?}", lent.width, lent.height, lent.stride);
         tally.same(row(family.try_decode_quad(&lent, quad)), original, input);
         tally.same(row(family.table().try_decode_quad(&lent, quad)), original, input);
@@ -109,7 +109,7 @@ fn noise(part: u64, mut lines: Lines, tally: &mut Tally) {
     }
 }
 
-/// The painter against a second one, and what document 01 says of painted tags at any turn and start.
+/// The painter against a second one, and what documents 01 and 02 say of painted tags at any turn and start.
 fn painted(part: u64, mut lines: Lines, tally: &mut Tally) {
     let mut numbers = Numbers::from(SEED + 3_200 + part);
     let family = FAMILIES[part as usize];
@@ -138,8 +138,8 @@ fn painted(part: u64, mut lines: Lines, tally: &mut Tally) {
         print_order.corners.reverse();
         for start in 0..4 {
             let read = family.try_decode_quad(&picture, &quad.started(start));
-            let promised = (id, (4 - start as u8) % 4, print_order);
-            tally.same(read.map(|tag| (tag.id, tag.turn, tag.corners)), Ok(promised), input);
+            let promised = (id, (4 - start as u8) % 4, misprints as u8, print_order);
+            tally.same(read.map(|tag| (tag.id, tag.turn, tag.differing, tag.corners)), Ok(promised), input);
         }
         let four: Vec<Quad> = (0..4).map(|start| quad.started(start)).collect();
         let alone: Vec<_> = four.iter().map(|quad| family.try_decode_quad(&picture, quad)).collect();

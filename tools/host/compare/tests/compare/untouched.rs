@@ -45,7 +45,7 @@ macro_rules! bits_of_tuples {
     };
 }
 
-bits_of_tuples!((A, B), (A, B, D), (A, B, D, E));
+bits_of_tuples!((A, B), (A, B, D), (A, B, D, E), (A, B, D, E, F));
 
 /// The calls so far, and the numbers that buffers are filled with.
 struct Calls {
@@ -86,6 +86,11 @@ impl Calls {
 
     fn bytes(&mut self, count: usize) -> Vec<u8> {
         (0..count).map(|_| self.numbers.next() as u8).collect()
+    }
+
+    /// The outputs of a search.
+    fn found(&mut self) -> (usize, u8, u8) {
+        (self.numbers.next() as usize, self.numbers.next() as u8, self.numbers.next() as u8)
     }
 
     /// A pitch for planes of 20 × 20 pixels.
@@ -134,11 +139,12 @@ fn words(calls: &mut Calls) {
     let tables: [(u8, &[u64], u8); 8] =
         [(1, codes, 0), (1, codes, 9), (0, codes, 4), (65, codes, 4), (1, &[], 4), (1, &many, 4), (1, &outside, 4), (1, &[2], 1)];
     for (distance, codes, edge) in tables {
-        let lent = (calls.numbers.next() as usize, calls.numbers.next() as u8);
-        calls.refuse("best_tag", 6, lent, |(id, turn)| c::best_tag(0x231B, distance, codes, edge, id, turn));
+        let lent = calls.found();
+        calls
+            .refuse("best_tag", 6, lent, |(id, turn, differing)| c::best_tag(0x231B, distance, codes, edge, id, turn, differing));
     }
-    let lent = (calls.numbers.next() as usize, calls.numbers.next() as u8);
-    calls.refuse("best_tag", 13, lent, |(id, turn)| c::best_tag(0x231A, 1, codes, 4, id, turn));
+    let lent = calls.found();
+    calls.refuse("best_tag", 13, lent, |(id, turn, differing)| c::best_tag(0x231A, 1, codes, 4, id, turn, differing));
 }
 
 fn levels(calls: &mut Calls) {
@@ -171,8 +177,9 @@ fn bad_quads() -> Vec<(u32, [f32; 8])> {
 }
 
 /// A plane and the outputs of a reading.
-fn lent(calls: &mut Calls, pixels: &[u8], pitch: usize) -> (Vec<u8>, usize, u8, [f32; 8]) {
-    (calls.padded(pixels, pitch), calls.numbers.next() as usize, calls.numbers.next() as u8, calls.eight())
+fn lent(calls: &mut Calls, pixels: &[u8], pitch: usize) -> (Vec<u8>, usize, u8, u8, [f32; 8]) {
+    let (id, turn, differing) = calls.found();
+    (calls.padded(pixels, pitch), id, turn, differing, calls.eight())
 }
 
 fn quads(calls: &mut Calls) {
@@ -183,30 +190,30 @@ fn quads(calls: &mut Calls) {
     let pitch = calls.pitch();
     for (number, quad) in bad_quads() {
         let all = lent(calls, &grey, pitch);
-        calls.refuse("try_decode_quad_in", number, all, |(plane, id, turn, corners)| {
-            c::try_decode_quad_in(plane, 20, 20, pitch, 3, &quad, id, turn, corners)
+        calls.refuse("try_decode_quad_in", number, all, |(plane, id, turn, differing, corners)| {
+            c::try_decode_quad_in(plane, 20, 20, pitch, 3, &quad, id, turn, differing, corners)
         });
         let all = lent(calls, &grey, pitch);
-        calls.refuse("try_decode_quad", number, all, |(plane, id, turn, corners)| {
-            c::try_decode_quad(plane, 20, 20, pitch, 4, 2, 1, &[0x231B], &quad, id, turn, corners)
+        calls.refuse("try_decode_quad", number, all, |(plane, id, turn, differing, corners)| {
+            c::try_decode_quad(plane, 20, 20, pitch, 4, 2, 1, &[0x231B], &quad, id, turn, differing, corners)
         });
     }
     for (number, pixels) in [(13, &stripes), (12, &unsure)] {
         let all = lent(calls, pixels, pitch);
-        calls.refuse("try_decode_quad_in", number, all, |(plane, id, turn, corners)| {
-            c::try_decode_quad_in(plane, 20, 20, pitch, 3, &good, id, turn, corners)
+        calls.refuse("try_decode_quad_in", number, all, |(plane, id, turn, differing, corners)| {
+            c::try_decode_quad_in(plane, 20, 20, pitch, 3, &good, id, turn, differing, corners)
         });
     }
     for family in [5, 255] {
         let all = lent(calls, &grey, pitch);
-        calls.refuse("try_decode_quad_in", 6, all, |(plane, id, turn, corners)| {
-            c::try_decode_quad_in(plane, 20, 20, pitch, family, &good, id, turn, corners)
+        calls.refuse("try_decode_quad_in", 6, all, |(plane, id, turn, differing, corners)| {
+            c::try_decode_quad_in(plane, 20, 20, pitch, family, &good, id, turn, differing, corners)
         });
     }
     for (edge, border, distance) in [(0, 2, 1), (9, 2, 1), (4, 0, 1), (4, 5, 1), (4, 2, 0), (4, 2, 65), (3, 2, 1)] {
         let all = lent(calls, &grey, pitch);
-        calls.refuse("try_decode_quad", 6, all, |(plane, id, turn, corners)| {
-            c::try_decode_quad(plane, 20, 20, pitch, edge, border, distance, &[0x231B], &good, id, turn, corners)
+        calls.refuse("try_decode_quad", 6, all, |(plane, id, turn, differing, corners)| {
+            c::try_decode_quad(plane, 20, 20, pitch, edge, border, distance, &[0x231B], &good, id, turn, differing, corners)
         });
     }
 }
@@ -225,13 +232,13 @@ fn frames(calls: &mut Calls) {
     let quad = &quads[..8].try_into().unwrap();
     for [w, h, p] in bad_frames(pitch) {
         let one = lent(calls, &[90; 400], pitch);
-        let list = (one.0.clone(), calls.longs(6), calls.floats(16));
+        let list = (one.0.clone(), calls.longs(8), calls.floats(16));
         let painting = (one.0.clone(), calls.eight());
-        calls.refuse("try_decode_quad_in", 1, one.clone(), |(plane, id, turn, corners)| {
-            c::try_decode_quad_in(plane, w, h, p, 3, quad, id, turn, corners)
+        calls.refuse("try_decode_quad_in", 1, one.clone(), |(plane, id, turn, differing, corners)| {
+            c::try_decode_quad_in(plane, w, h, p, 3, quad, id, turn, differing, corners)
         });
-        calls.refuse("try_decode_quad", 1, one, |(plane, id, turn, corners)| {
-            c::try_decode_quad(plane, w, h, p, 4, 2, 1, &[0x231B], quad, id, turn, corners)
+        calls.refuse("try_decode_quad", 1, one, |(plane, id, turn, differing, corners)| {
+            c::try_decode_quad(plane, w, h, p, 4, 2, 1, &[0x231B], quad, id, turn, differing, corners)
         });
         calls.refuse("try_decode_quads_in", 1, list.clone(), |(plane, rows, corners)| {
             c::try_decode_quads_in(plane, w, h, p, 3, &quads, rows, corners)
@@ -261,9 +268,15 @@ fn lists(calls: &mut Calls) {
             c::try_decode_quads(plane, 20, 20, pitch, edge, 2, 1, &[0x231B], &quads, rows, corners)
         });
     };
-    list(calls, 6, [16, 6, 16], 5);
-    for sizes in [[7, 6, 16], [9, 6, 16], [16, 5, 16], [16, 6, 15], [8_200, 3_075, 8_200], [1, 0, 0], [8, 0, 8], [8, 3, 0]] {
+    list(calls, 6, [16, 8, 16], 5);
+    for sizes in [[7, 8, 16], [9, 8, 16], [16, 7, 16], [16, 6, 16], [16, 8, 15], [8_200, 4_100, 8_200], [1, 0, 0]] {
         list(calls, 16, sizes, 0);
+    }
+    // An output one number short, a row of three numbers a quad, none at all.
+    for quads in [1, 2, 30, 1_024] {
+        for (rows, corners) in [(4 * quads - 1, 8 * quads), (3 * quads, 8 * quads), (0, 8 * quads), (4 * quads, 8 * quads - 1)] {
+            list(calls, 16, [8 * quads, rows, corners], 0);
+        }
     }
 }
 
@@ -406,10 +419,10 @@ fn beyond_the_answer(calls: &mut Calls) -> u64 {
         let pitch = calls.pitch();
         let plane = calls.padded(&[90; 400], pitch);
         let quads: Vec<f32> = bad.iter().flat_map(|(_, quad)| *quad).collect();
-        let (rows, corners) = (calls.longs(3 * bad.len() + extra), calls.floats(8 * bad.len() + extra));
+        let (rows, corners) = (calls.longs(4 * bad.len() + extra), calls.floats(8 * bad.len() + extra));
         let (mut rows_after, mut corners_after) = (rows.clone(), corners.clone());
         assert_eq!(c::try_decode_quads_in(&plane, 20, 20, pitch, 3, &quads, &mut rows_after, &mut corners_after), 0);
-        let expected: Vec<u64> = bad.iter().flat_map(|&(number, _)| [number as u64, 0, 0]).collect();
+        let expected: Vec<u64> = bad.iter().flat_map(|&(number, _)| [number as u64, 0, 0, 0]).collect();
         assert_eq!(rows_after[..expected.len()], expected);
         assert_eq!(rows_after[expected.len()..], rows[expected.len()..]);
         assert!(corners_after[..quads.len()].iter().all(|number| number.to_bits() == 0));

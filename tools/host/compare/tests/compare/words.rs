@@ -3,7 +3,7 @@
 use crate::tally::{Job, Tally, job, parts};
 use muosleap::{FAMILIES, Family, Refusal, Table, detector::rotate_bits};
 use muosleap_compare::{Numbers, SEED};
-use oracle::original::detector::{TagDetector, best_tag, turned};
+use oracle::original::detector::{TagDetector, best_tag, best_tag_differing, turned};
 use oracle::original::tag_families::TagFamily;
 use oracle::words::{is_unlike, square};
 
@@ -47,15 +47,23 @@ fn turns(tally: &mut Tally) {
     }
 }
 
+/// What the original says to a word: id, turn, and of its search with the widened answer, which has to agree, the differing bits.
+fn original(table: &Table, bits: u64) -> Option<(usize, usize, u32)> {
+    let (id, turn) = best_tag(bits, table.hamming_distance, table.codes, table.edge)?;
+    let wide = best_tag_differing(bits, table.hamming_distance, table.codes, table.edge);
+    assert_eq!(wide.map(|(id, turn, _)| (id, turn)), Some((id, turn)));
+    wide
+}
+
 /// Searches one word in a table on both sides.
 fn search(table: &Table, bits: u64, tally: &mut Tally) {
     let ours = match table.best_tag(bits) {
-        Ok(found) => Some((found.id, found.turn as usize)),
+        Ok(found) => Some((found.id, found.turn as usize, found.differing as u32)),
         Err(Refusal::NoCode) => None,
         Err(other) => panic!("{other}"),
     };
-    let original = best_tag(bits, table.hamming_distance, table.codes, table.edge);
-    tally.same(ours, original, || format!("edge {}, {} codes, word {bits:#x}", table.edge, table.codes.len()));
+    let input = || format!("edge {}, {} codes, word {bits:#x}", table.edge, table.codes.len());
+    tally.same(ours, original(table, bits), input);
 }
 
 fn sweep(family: Family, words: std::ops::Range<u64>, tally: &mut Tally) {

@@ -107,7 +107,7 @@ impl Sheet {
         assert!(rows.into_iter().map(|row| row.unwrap().id).eq(0..144));
         let Picture { bytes, width, height, stride } = picture;
         let quads: Vec<f32> = self.quads.iter().flat_map(|&quad| <[f32; 8]>::from(quad)).collect();
-        let (mut rows, mut corners) = (vec![1; 3 * 144], vec![1.0; 8 * 144]);
+        let (mut rows, mut corners) = (vec![1; 4 * 144], vec![1.0; 8 * 144]);
         move || c::try_decode_quads_in(bytes, width, height, stride, FAMILY.number(), &quads, &mut rows, &mut corners)
     }
 
