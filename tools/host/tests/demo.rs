@@ -1,4 +1,5 @@
-//! The demo's command line: what it does not know is an error, and then nothing is written.
+//! The demo: its table shows how many modules were misprinted, and of its command line what it does not know is an error, and then
+//! nothing is written.
 
 use std::ffi::OsStr;
 use std::fs;
@@ -50,6 +51,30 @@ fn a_bad_option_is_an_error() {
         assert_eq!(fs::read_dir(folder).unwrap().count(), 0, "{words} wrote something");
     }
     assert_eq!(demo("bad", &[OsStr::new("")]).1.status.code(), Some(2));
+}
+
+/// The table's columns of painted tags, tags as they were read, and differing modules.
+fn columns(told: &str) -> Vec<[&str; 3]> {
+    let table = told.lines().map(|line| line.split('|').map(str::trim).collect::<Vec<_>>()).filter(|line| line.len() == 5);
+    table.skip(3).map(|line| [line[0], line[1], line[3]]).collect()
+}
+
+#[test]
+fn misprinted_modules_are_shown() {
+    let misprinted = |tag: usize| ["0", "1", "2"][(tag == 7) as usize + 2 * (tag == 22) as usize];
+    for (words, smeared, read) in [(vec!["out"], None, 144), (vec!["out", "--smear", "22"], Some(22), 140)] {
+        let (_, output) = demo("misprinted", &words.iter().map(OsStr::new).collect::<Vec<_>>());
+        let told = String::from_utf8(output.stdout).unwrap();
+        assert!(told.contains("Misprinted modules: 1 of tag 7, 2 of tag 22."), "{told}");
+        let line = format!("  {read} of 144 rows read, {read} of them as painted: tag, and number of misprinted modules.\n");
+        assert!(told.contains(&line), "{told}");
+        let tags: Vec<String> = (0..36).map(|tag: usize| tag.to_string()).collect();
+        let expected = |(tag, name): (usize, &'_ String)| match smeared == Some(tag) {
+            true => [name.clone(), "-".into(), "-".into()],
+            false => [name.clone(), name.clone(), misprinted(tag).into()],
+        };
+        assert_eq!(columns(&told), tags.iter().enumerate().map(expected).collect::<Vec<_>>());
+    }
 }
 
 #[test]

@@ -9,6 +9,11 @@ use std::ops::RangeInclusive;
 /// Tags with misprinted modules, and which. The family's match threshold is 3, so two are read as if there were none.
 pub const MISPRINTED: [(usize, u64); 2] = [(7, 1 << 20), (22, 1 << 3 | 1 << 30)];
 
+/// How many modules of a tag are misprinted.
+pub fn misprinted(tag: usize) -> u32 {
+    MISPRINTED.iter().filter(|(id, _)| *id == tag).map(|(_, modules)| modules.count_ones()).sum()
+}
+
 /// Camera size.
 const WIDTH: usize = 1920;
 const HEIGHT: usize = 1080;

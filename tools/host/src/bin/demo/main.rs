@@ -78,12 +78,12 @@ impl Found {
 
 fn print_summary(options: &Options, camera: &Camera, found: &Found) {
     let Picture { width, height, stride, .. } = camera.picture;
-    let misprinted = camera::MISPRINTED.map(|(id, _)| id.to_string()).join(" and ");
+    let misprinted = camera::MISPRINTED.map(|(id, modules)| format!("{} of tag {id}", modules.count_ones())).join(", ");
     let [clustered, read] = found.times.map(|time| time.as_secs_f64() * 1e3);
     let corners = |quads: &[Quad]| quads.iter().flat_map(|quad| quad.corners).collect::<Vec<Point>>();
     let away = corners(&found.quads).into_iter().zip(corners(&camera.quads)).map(|(p, q)| distance(p, q)).fold(0.0, f32::max);
     println!("A sheet of {SIDE} x {SIDE} tags of {FAMILY:?} on a picture of {width} x {height} pixels, with noise of about");
-    println!("{} levels. Tags {misprinted} have misprinted modules.", options.noise);
+    println!("{} levels. Misprinted modules: {misprinted}.", options.noise);
     println!("Its lines begin {stride} bytes after one another (pitch); {} bytes between them are filler.\n", camera.filler());
     println!("Picture to clusters: {} clusters in {clustered:.1} ms (blur, response, threshold, clusters).", found.clusters);
     println!("Each tag's corners are the cluster centres nearest to where they were painted, at most {away:.2} pixel away.");
@@ -101,22 +101,30 @@ fn near(quad: &Quad, centers: &[Point]) -> Quad {
     Quad { corners: quad.corners.map(nearest) }
 }
 
-/// One line for each tag: its id, the turn that each start gives, and its corners.
+/// One line for each tag: its id, the turn that each start gives, how many modules differ from its code, and its corners.
 fn print_table(rows: &[Result<Tag, Refusal>]) {
-    println!("  painted | read as | turn at start | corners in print order: fourth, third, second, first (x, y)");
-    println!("  tag     | tag     | 0   1   2   3 |");
-    println!("  --------|---------|---------------|{}", "-".repeat(66));
-    let mut refusals: Vec<Refusal> = Vec::new();
+    println!("  painted | read as | turn at start | differing | corners in print order: fourth, third, second, first (x, y)");
+    println!("  tag     | tag     | 0   1   2   3 | modules   |");
+    println!("  --------|---------|---------------|-----------|{}", "-".repeat(66));
     for (painted, four) in rows.chunks(4).enumerate() {
         let turns: Vec<String> = four.iter().map(|row| row.map_or("-".into(), |tag| tag.turn.to_string())).collect();
-        let (read, corners) = match four[0] {
-            Ok(tag) => (tag.id.to_string(), tag.corners.corners.map(|p| format!("({:6.1}, {:6.1})", p.x, p.y)).join(" ")),
-            Err(refusal) => ("-".into(), format!("refusal {}", refusal.number())),
+        let [read, differing] = four[0].map_or(["-".into(), "-".into()], |tag| [tag.id.to_string(), tag.differing.to_string()]);
+        let corners = match four[0] {
+            Ok(tag) => tag.corners.corners.map(|p| format!("({:6.1}, {:6.1})", p.x, p.y)).join(" "),
+            Err(refusal) => format!("refusal {}", refusal.number()),
         };
-        println!("  {painted:>7} | {read:>7} | {} | {corners}", turns.join("   "));
-        refusals.extend(four.iter().filter_map(|row| row.err()));
+        println!("  {painted:>7} | {read:>7} | {} | {differing:>9} | {corners}", turns.join("   "));
     }
-    println!("  {} of {} rows read.", rows.iter().filter(|row| row.is_ok()).count(), rows.len());
+    print_check(rows);
+}
+
+/// How many rows were read, how many of these say what was painted, and which refusals the others have.
+fn print_check(rows: &[Result<Tag, Refusal>]) {
+    let read = rows.iter().enumerate().filter_map(|(place, row)| row.ok().map(|tag| (place / 4, tag)));
+    let as_painted = |(painted, tag): &(usize, Tag)| tag.id == *painted && tag.differing as u32 == camera::misprinted(*painted);
+    let (count, right) = (read.clone().count(), read.filter(as_painted).count());
+    println!("  {count} of {} rows read, {right} of them as painted: tag, and number of misprinted modules.", rows.len());
+    let mut refusals: Vec<Refusal> = rows.iter().filter_map(|row| row.err()).collect();
     refusals.sort();
     refusals.dedup();
     refusals.iter().for_each(|refusal| println!("  {refusal}"));
