@@ -38,8 +38,8 @@ pub struct Tag {
     pub id: usize,
     /// How the quad was begun: turns from the quad's first corner to the print's, 0 to 3.
     pub turn: u8,
-    /// How many modules differ from the tag's code, whatever corner the quad began with: 0 for a clean tag, and always below the
-    /// match threshold. It tells [wear](self#wear).
+    /// How many modules differ from the tag's code: 0 for a clean tag, and always below the match threshold. With a table that passes
+    /// the likeness check it is the same from every corner that the quad begins with. It tells [wear](self#wear).
     pub differing: u8,
     /// The quad's corners in print order, whatever corner the quad began with.
     pub corners: Quad,
