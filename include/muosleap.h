@@ -72,8 +72,9 @@ uint32_t muosleap_rotate_bits(uint64_t bits, uint8_t edge, uint64_t *word);
 /*
  * The code that a word shows, and the first turn, 0 to 3, at which it differs from a code in fewer bits than the match threshold.
  * Refusals: 6 (the border is not lent and not tested), 13.
- * id: the code's position from 0. turn: the turn. differing: in how many bits the code differs from the word turned so often; it is
- * below the match threshold, so 63 at most. Bits above the square count too, at turn 0 alone: a turned word has none.
+ * id: the code's position from 0. turn: the turn. differing: in how many bits the code differs from the word turned so often, the
+ * fewest that a code does; below the match threshold, so 63 at most. Bits above the square count too, at turn 0 alone: a turned word
+ * has none.
  */
 uint32_t muosleap_best_tag(uint64_t bits, uint8_t hamming_distance, const uint64_t *codes, size_t codes_count, uint8_t edge,
                            size_t *id, uint8_t *turn, uint8_t *differing);
@@ -97,8 +98,9 @@ uint32_t muosleap_bit_code(const uint8_t *levels, size_t levels_count, uint8_t b
 /*
  * The tag at a quad of an 8-bit plane, read with a lent table.
  * Refusals: 1, 6, 8, 9, 10, 11, 12, 13.
- * quad: eight numbers. id, turn: as of muosleap_best_tag. differing: how many modules differ from the tag's code, below the match
- * threshold. It tells wear: a clean tag reads 0. corners: eight numbers, the quad turned left by the turn, then reversed.
+ * quad: eight numbers. id, turn: as of muosleap_best_tag. differing: how many modules differ from the tag's code, fewer than the match
+ * threshold. It tells wear: with a table that passes the likeness check a clean tag gives 0. corners: eight numbers, the quad turned
+ * left by the turn, then reversed.
  */
 uint32_t muosleap_try_decode_quad(const uint8_t *plane, size_t plane_count, size_t width, size_t height, size_t pitch,
                                   uint8_t edge, uint8_t border, uint8_t hamming_distance, const uint64_t *codes,

@@ -35,8 +35,8 @@ pub fn rotate_bits(bits: u64, edge: u8) -> Turned
     Turned::Word(word::rotate_bits(bits, edge))
 }
 
-// The code that a word shows, and the turn at which it shows it. Refusal 6 for the table, of which all is lent but the border,
-// and 13 where no code is near in four turns.
+// The code that a word shows, the turn at which it shows it, and in how many bits they differ. Refusal 6 for the table, of which
+// all is lent but the border, and 13 where no code is near in four turns.
 pub fn best_tag(bits: u64, hamming_distance: u8, codes: &[u64], edge: u8) -> Found
     ensures { λ r. ⌜ paperFound r ≡ bestTag bits «hamming_distance» (now (codes .entry)) edge ⌝ }
 {

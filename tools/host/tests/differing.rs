@@ -343,6 +343,18 @@ fn the_longest_list_needs_4_096_numbers() {
     }
 }
 
+/// A list of one quad, refused for `number`: by 1 and 6 the whole call, which writes nothing; else the row is zero in every bit but for
+/// the number, and so are the corners.
+fn row_is_refused(number: u32, read: impl Fn(&mut [u64], &mut [f32]) -> u32) {
+    let (mut rows, mut corners) = ([99; 4], [0.5; 8]);
+    let answer = read(&mut rows, &mut corners);
+    let expected = match number {
+        1 | 6 => (number, [99; 4], [0.5f32.to_bits(); 8]),
+        _ => (0, [number as u64, 0, 0, 0], [0; 8]),
+    };
+    assert_eq!((answer, rows, corners.map(f32::to_bits)), expected);
+}
+
 #[test]
 fn a_refused_reading_writes_nothing_and_its_row_is_zero() {
     let family = Family::T36H11;
@@ -369,11 +381,9 @@ fn a_refused_reading_writes_nothing_and_its_row_is_zero() {
         let answer_in = c::try_decode_quad_in(plane, 30, 30, pitch, family, quad, i, t, d, &mut corners);
         assert_eq!((answer, answer_in), (number, number));
         assert_eq!((id, turn, differing, corners), (77, 88, 66, [0.5; 8]), "{number}");
-        let mut rows = [99; 4];
-        let answer = c::try_decode_quads_in(plane, 30, 30, pitch, family, quad, &mut rows, &mut corners);
-        match number {
-            1 | 6 => assert_eq!((answer, rows, corners), (number, [99; 4], [0.5; 8])),
-            _ => assert_eq!((answer, rows, corners), (0, [number as u64, 0, 0, 0], [0.0; 8])),
-        }
+        row_is_refused(number, |rows, corners| {
+            c::try_decode_quads(plane, 30, 30, pitch, edge, border, hamming_distance, codes, quad, rows, corners)
+        });
+        row_is_refused(number, |rows, corners| c::try_decode_quads_in(plane, 30, 30, pitch, family, quad, rows, corners));
     }
 }

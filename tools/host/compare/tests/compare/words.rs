@@ -49,9 +49,8 @@ fn turns(tally: &mut Tally) {
 
 /// What the original says to a word: id, turn, and of its search with the widened answer, which has to agree, the differing bits.
 fn original(table: &Table, bits: u64) -> Option<(usize, usize, u32)> {
-    let (id, turn) = best_tag(bits, table.hamming_distance, table.codes, table.edge)?;
     let wide = best_tag_differing(bits, table.hamming_distance, table.codes, table.edge);
-    assert_eq!(wide.map(|(id, turn, _)| (id, turn)), Some((id, turn)));
+    assert_eq!(best_tag(bits, table.hamming_distance, table.codes, table.edge), wide.map(|(id, turn, _)| (id, turn)));
     wide
 }
 

@@ -6,7 +6,7 @@ use muosleap::sheet::Sheet;
 use muosleap::{Picture, Point, Quad, Refusal};
 use std::ops::RangeInclusive;
 
-/// Tags with misprinted modules, and which. The family's match threshold is 3, so two are read as if there were none.
+/// Tags with misprinted modules, and which. The family's match threshold is 3, so up to two are read, and told.
 pub const MISPRINTED: [(usize, u64); 2] = [(7, 1 << 20), (22, 1 << 3 | 1 << 30)];
 
 /// How many modules of a tag are misprinted.
