@@ -25,7 +25,7 @@ abbrev pub quadCount : ℕ → ℕ
 quadCount numbers = numbers / quadSize
 
 -- refusal 16, of the lengths of the quad list and the two outputs: "quad list not a multiple of 8 numbers or above 1,024 quads,
--- or an output shorter than" a row's "numbers and eight corner numbers a quad"
+-- or an output shorter than three numbers and eight corner numbers a quad"; a row has four numbers now, "and 16 measures by that"
 unfoldable pub badList : ℕ → ℕ → ℕ → Bool
 badList quads rows corners =
     not (eqb (quads % quadSize) 0) || (ltb mostQuads (quadCount quads)

@@ -10,7 +10,8 @@ pub enum Listed {
     Refused(u8),
 }
 
-// A row and eight corner numbers for each quad of a list, read with a lent table. Refusals 1, 6 and 16, and in rows 8 to 13.
+// A row (refusal, id, turn, differing modules) and eight corner numbers for each quad of a list, read with a lent table. Refusals 1,
+// 6 and 16, and in rows 8 to 13.
 pub fn try_decode_quads(
     plane: &[u8],
     frame: Frame,

@@ -2,6 +2,7 @@
 use painter::Print;
 use refusals::Frame;
 use tables::Family;
+ghost use mathlib.Core.Path.{_≡_};
 ghost use Rattle.points.specs.Numbers.{quadAt};
 ghost use Rattle.muosleap.specs.Quad.{decodeQuad, decodeQuadIn};
 ghost use Rattle.muosleap.specs.Quads.{decodeQuads, decodeQuadsIn};
@@ -9,6 +10,17 @@ ghost use Rattle.muosleap.specs.PaintTag.{paintTag, paintTagIn};
 ghost use Rattle.outputs.specs.Outputs.{held};
 ghost use Rattle.c_tags.specs.Tags.{ReadsTag, ReadsTags, PaintsTag};
 ghost use Rattle.muosleap_c.specs.Structs.{frameOf, tableOf, printOf};
+
+// The description of an 8-bit plane.
+fn frame_of(width: usize, height: usize, pitch: usize) -> Frame
+    ensures { λ r. ⌜ r ≡ frameOf width height pitch ⌝ }
+{
+    Frame {
+        width,
+        height,
+        pitch,
+    }
+}
 
 #[no_mangle]
 pub extern "C" fn muosleap_try_decode_quad(
@@ -35,11 +47,7 @@ pub extern "C" fn muosleap_try_decode_quad(
         border,
         hamming_distance,
     };
-    let frame = Frame {
-        width,
-        height,
-        pitch,
-    };
+    let frame = frame_of(width, height, pitch);
     c_tags::quads::try_decode_quad(
         plane,
         frame,
@@ -69,11 +77,7 @@ pub extern "C" fn muosleap_try_decode_quad_in(
     ensures { λ r. ⌜ ReadsTag (decodeQuadIn (now (plane .entry)) (frameOf width height pitch) family (quadAt (now (quad .entry)) 0))
         r (held id) (held turn) (held differing) (held corners) ⌝ }
 {
-    let frame = Frame {
-        width,
-        height,
-        pitch,
-    };
+    let frame = frame_of(width, height, pitch);
     c_tags::quads::try_decode_quad_in(plane, frame, family, quad, id, turn, differing, corners)
 }
 
@@ -101,11 +105,7 @@ pub extern "C" fn muosleap_try_decode_quads(
         border,
         hamming_distance,
     };
-    let frame = Frame {
-        width,
-        height,
-        pitch,
-    };
+    let frame = frame_of(width, height, pitch);
     c_tags::quads::try_decode_quads(plane, frame, family, codes, quads, rows, corners)
 }
 
@@ -124,11 +124,7 @@ pub extern "C" fn muosleap_try_decode_quads_in(
         (decodeQuadsIn (now (plane .entry)) (frameOf width height pitch) family (now (quads .entry)) (now (rows .entry)) (now (corners .entry)))
         r (held rows) (held corners) ⌝ }
 {
-    let frame = Frame {
-        width,
-        height,
-        pitch,
-    };
+    let frame = frame_of(width, height, pitch);
     c_tags::quads::try_decode_quads_in(plane, frame, family, quads, rows, corners)
 }
 
@@ -160,11 +156,7 @@ pub extern "C" fn muosleap_paint_tag(
         light,
         dark,
     };
-    let frame = Frame {
-        width,
-        height,
-        pitch,
-    };
+    let frame = frame_of(width, height, pitch);
     c_tags::quads::paint_tag(plane, frame, edge, border, word, print, quad)
 }
 
@@ -195,10 +187,6 @@ pub extern "C" fn muosleap_paint_tag_in(
         light,
         dark,
     };
-    let frame = Frame {
-        width,
-        height,
-        pitch,
-    };
+    let frame = frame_of(width, height, pitch);
     c_tags::quads::paint_tag_in(plane, frame, family, word, print, quad)
 }

@@ -2,9 +2,11 @@
 use mathlib.Core.Path.{_≡_, refl, sym, ap, _∙_, subst}
 use mathlib.Core.Bool.{Bool, true, false, cond}
 use mathlib.Core.List.{List}
-use Prim.Native.Nat.{ℕ, _<_}
+use Prim.Native.Nat.{ℕ, _≤_, _<_}
 use native.Mathlib.Nat.{zero-add}
 use native.Mathlib.Omega.{arith}
+use borrow.Author.Tests.{ltb-true, ltb-false}
+use lib.Dec.{ltb}
 use lib.Ieee.{Float}
 use lib.ListN.{length, getD}
 use Rattle.lists.proofs.Bools.{or-right}
@@ -16,6 +18,7 @@ use Rattle.points.specs.Numbers.{quadAt, cornersAt}
 use Rattle.tables.specs.Table.{badTable, badBorder, badCodes}
 use Rattle.tables.specs.declared.Family.{Family}
 use Rattle.tables.proofs.Table.{good-codes}
+use Rattle.tag_families.specs.Families.{familyOf, codesOf}
 use Rattle.word.specs.Word.{turns, differing}
 use Rattle.places.specs.Corners.{badCorners, cornersOutside}
 use Rattle.places.specs.Place.{axesOf}
@@ -27,10 +30,11 @@ use Rattle.reader.proofs.Order.{reading-8, reading-9, reading-10, reading-on}
 use Rattle.listing.specs.Listing.{quadCount, Listing, rowOf, cornersOf, rowAt}
 use Rattle.listing.proofs.Listing.{row-is, corners-are}
 use Rattle.muosleap.specs.Codes.{bestTag}
-use Rattle.muosleap.specs.Quad.{decodeQuad}
-use Rattle.muosleap.specs.Quads.{decodeQuads}
-use Rattle.muosleap.proofs.Order.{quad-1, quad-6, quad-read}
+use Rattle.muosleap.specs.Quad.{decodeQuad, decodeQuadIn}
+use Rattle.muosleap.specs.Quads.{decodeQuads, decodeQuadsIn}
+use Rattle.muosleap.proofs.Order.{quad-1, quad-6, quad-read, in-1, in-6}
 use Rattle.muosleap.proofs.ListReading.{accepted-means}
+use Rattle.paper.proofs.Demand3.{demand-3}
 use Rattle.paper.specs.HowFarOff.{distance, FewestAnswered, PassedOn, HowFarOff}
 
 -- no refusal is an answer
@@ -128,6 +132,21 @@ passed-on plane frame family codes quad tag e = framed (badFrame (length plane) 
     framed true f = refused-not 1 tag (PassedOn plane frame family codes quad tag) (sym (quad-1 plane frame family codes quad f) ∙ e)
     framed false f = tabled f (badTable family codes) refl
 
+passed-on-in : (plane : List ℕ) (frame : Frame) (number : ℕ) (quad : Quad) (tag : Tag)
+    → decodeQuadIn plane frame number quad ≡ accepted tag → PassedOn plane frame (familyOf number) (codesOf number) quad tag
+passed-on-in plane frame number quad tag e = known (ltb number 5) refl
+  where
+    Passed-in : Type 0
+    Passed-in = PassedOn plane frame (familyOf number) (codesOf number) quad tag
+
+    unknown : 5 ≤ number → (f : Bool) → badFrame (length plane) frame ≡ f → Passed-in
+    unknown h true f = refused-not 1 tag Passed-in (sym (in-1 plane frame number quad f) ∙ e)
+    unknown h false f = refused-not 6 tag Passed-in (sym (in-6 plane frame number quad f h) ∙ e)
+
+    known : (b : Bool) → ltb number 5 ≡ b → Passed-in
+    known true b = passed-on plane frame (familyOf number) (codesOf number) quad tag (sym (demand-3 .by-number number (ltb-true number 5 b) plane frame .0 quad) ∙ e)
+    known false b = unknown (ltb-false number 5 b) (badFrame (length plane) frame) refl
+
 -- ---- the list reader
 
 listed-alone : (plane : List ℕ) (frame : Frame) (family : Family) (codes : List ℕ) (quads : List Float) (rows : List ℕ) (corners : List Float) (n i : ℕ)
@@ -142,5 +161,35 @@ listed-alone plane frame family codes quads rows corners n i a l =
       ap (λ (x : Listing). cornersAt (x .corners) i) (r .outcome) ∙ corners-are plane frame family codes quads rows corners i i< ∙ ap cornersOf alone,
     )
 
+module _ (plane : List ℕ) (frame : Frame) (number : ℕ) (quads : List Float) (rows : List ℕ) (corners : List Float) (n i : ℕ) where
+  abbrev result : Listing
+  result = decodeQuadsIn plane frame number quads rows corners
+
+  abbrev read : Outcome Tag
+  read = decodeQuadIn plane frame number (quadAt quads i)
+
+  abbrev Alone : Type 0
+  Alone = (rowAt (result .rows) i ≡ rowOf read) × (cornersAt (result .corners) i ≡ cornersOf read)
+
+  -- no such family: the call is refused by 1 or by 6
+  no-family : ltb number 5 ≡ false → (f : Bool) → badFrame (length plane) frame ≡ f → result .answer ≡ refused (cond f 1 6)
+  unfolding decodeQuadsIn
+  no-family b true f = simp (f, b)
+  no-family b false f = simp (f, b)
+
+  listed-alone-in : result .answer ≡ accepted n → i < n → Alone
+  listed-alone-in a l = known (ltb number 5) refl
+    where
+      known : (b : Bool) → ltb number 5 ≡ b → Alone
+      known false b = let f = badFrame (length plane) frame in refused-not (cond f 1 6) n Alone (sym (no-family b f refl) ∙ a)
+      known true b =
+          let by = demand-3 .by-number number (ltb-true number 5 b) plane frame in
+          let whole = by .1 quads rows corners in
+          let alone = sym (by .0 (quadAt quads i)) in
+          let same = listed-alone plane frame (familyOf number) (codesOf number) quads rows corners n i (sym (ap (λ (x : Listing). x .answer) whole) ∙ a) l in (
+            ap (λ (x : Listing). rowAt (x .rows) i) whole ∙ same .0 ∙ ap rowOf alone,
+            ap (λ (x : Listing). cornersAt (x .corners) i) whole ∙ same .1 ∙ ap cornersOf alone,
+          )
+
 pub how-far-off : HowFarOff
-how-far-off = record { search = fewest-answered; quad = passed-on; list = listed-alone }
+how-far-off = record { search = fewest-answered; quad = passed-on; quad-in = passed-on-in; list = listed-alone; list-in = listed-alone-in }

@@ -87,7 +87,7 @@ pub record Demand3 : Type 0 where
   pub any-quad : (plane : List ℕ) (frame : Frame) (family : Family) (codes : List ℕ) (quad : Quad) → Passes family codes → (s : ℕ) → s < 4
       → decodeQuad plane frame family codes (turnedLeft s quad) ≡ fromStart s (decodeQuad plane frame family codes quad)
   -- "Two accepted list readings of one plane and one such table whose quads differ only in their starts agree in all rows and corner numbers but
-  -- for the turns.": in the number of differing modules, too
+  -- for the turns." So they agree in the numbers of differing modules
   pub any-lists : (plane : List ℕ) (frame : Frame) (family : Family) (codes : List ℕ) → Passes family codes
       → (quads quads′ : List Float) (rows rows′ : List ℕ) (corners corners′ : List Float) (n n′ : ℕ)
       → let result = decodeQuads plane frame family codes quads rows corners in

@@ -11,6 +11,7 @@ use Rattle.refusals.specs.declared.Frame.{Frame}
 use Rattle.points.specs.declared.Quad.{Quad}
 use Rattle.points.specs.Numbers.{quadAt, cornersAt}
 use Rattle.tables.specs.declared.Family.{Family}
+use Rattle.tag_families.specs.Families.{familyOf, codesOf}
 use Rattle.word.specs.Word.{turns, differing}
 use Rattle.places.specs.Place.{axesOf}
 use Rattle.levels.specs.Levels.{codeOf}
@@ -18,8 +19,8 @@ use Rattle.search.specs.Search.{Seen}
 use Rattle.reader.specs.Reading.{levelsOf, Tag}
 use Rattle.listing.specs.Listing.{rowOf, cornersOf, rowAt}
 use Rattle.muosleap.specs.Codes.{bestTag}
-use Rattle.muosleap.specs.Quad.{decodeQuad}
-use Rattle.muosleap.specs.Quads.{decodeQuads}
+use Rattle.muosleap.specs.Quad.{decodeQuad, decodeQuadIn}
+use Rattle.muosleap.specs.Quads.{decodeQuads, decodeQuadsIn}
 
 -- in how many bits, of all 64, the word turned r times differs from the code at position k. A turn leaves no bit above the square, so such bits
 -- count at turn 0 alone
@@ -44,15 +45,22 @@ pub record PassedOn (plane : List ℕ) (frame : Frame) (family : Family) (codes 
   pub sampled : codeOf (levelsOf plane frame family (axesOf quad)) 10 3 ≡ accepted word
   pub searched : bestTag word (family .«hamming_distance») codes (family .edge) ≡ accepted (record { id = tag .id; turn = tag .turn; differing = tag .differing })
 
--- ---- the whole ticket but for demand 3, which says of painted tags "exactly as many differing modules as were misprinted"
+-- ---- what the number means, and that all readers pass it on. What a row is and what 16 measures is listing's `rowOf` and `badList`; that a painted
+-- tag has "exactly as many differing modules as were misprinted" is demand 3's
 
 pub record HowFarOff : Type 0 where
   pub search : (word threshold : ℕ) (codes : List ℕ) (edge : ℕ) (seen : Seen) → bestTag word threshold codes edge ≡ accepted seen
       → FewestAnswered threshold codes edge word seen
   pub quad : (plane : List ℕ) (frame : Frame) (family : Family) (codes : List ℕ) (quad : Quad) (tag : Tag)
       → decodeQuad plane frame family codes quad ≡ accepted tag → PassedOn plane frame family codes quad tag
+  pub quad-in : (plane : List ℕ) (frame : Frame) (number : ℕ) (quad : Quad) (tag : Tag)
+      → decodeQuadIn plane frame number quad ≡ accepted tag → PassedOn plane frame (familyOf number) (codesOf number) quad tag
   -- "and the list reader": the row and the corner numbers of each quad are those of its reading alone
   pub list : (plane : List ℕ) (frame : Frame) (family : Family) (codes : List ℕ) (quads : List Float) (rows : List ℕ) (corners : List Float) (n i : ℕ)
       → let result = decodeQuads plane frame family codes quads rows corners in
       let read = decodeQuad plane frame family codes (quadAt quads i) in
+      result .answer ≡ accepted n → i < n → (rowAt (result .rows) i ≡ rowOf read) × (cornersAt (result .corners) i ≡ cornersOf read)
+  pub list-in : (plane : List ℕ) (frame : Frame) (number : ℕ) (quads : List Float) (rows : List ℕ) (corners : List Float) (n i : ℕ)
+      → let result = decodeQuadsIn plane frame number quads rows corners in
+      let read = decodeQuadIn plane frame number (quadAt quads i) in
       result .answer ≡ accepted n → i < n → (rowAt (result .rows) i ≡ rowOf read) × (cornersAt (result .corners) i ≡ cornersOf read)

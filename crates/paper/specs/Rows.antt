@@ -23,8 +23,9 @@ pub record Row : Type 0 where
   pub worked : List ℕ
   pub says : List ℕ
 
+-- id, turn and, since 02's ticket 2, the number of differing modules
 abbrev pub tagNumbers : Outcome Seen → List ℕ
-tagNumbers (accepted s) = 0 ∷ s .id ∷ s .turn ∷ []
+tagNumbers (accepted s) = 0 ∷ s .id ∷ s .turn ∷ s .differing ∷ []
 tagNumbers (refused n) = n ∷ []
 
 abbrev pub wordNumbers : Outcome ℕ → List ℕ
@@ -90,9 +91,9 @@ rows =
     record { worked = wordNumbers (turned 0x231B 4); says = 0 ∷ 0x7D01 ∷ [] } ∷
     record { worked = turns 4 2 0x231B ∷ []; says = 0xD8C4 ∷ [] } ∷
     record { worked = turns 4 3 0x231B ∷ []; says = 0x80BE ∷ [] } ∷
-    -- "T16H5: 231B gives id 0 turn 0; 7D01 id 0 turn 3; 231A is 13"
-    record { worked = searched 0x231B; says = 0 ∷ 0 ∷ 0 ∷ [] } ∷
-    record { worked = searched 0x7D01; says = 0 ∷ 0 ∷ 3 ∷ [] } ∷
+    -- "T16H5: 231B gives id 0 turn 0; 7D01 id 0 turn 3; 231A is 13"; in both tags no module differs
+    record { worked = searched 0x231B; says = 0 ∷ 0 ∷ 0 ∷ 0 ∷ [] } ∷
+    record { worked = searched 0x7D01; says = 0 ∷ 0 ∷ 3 ∷ 0 ∷ [] } ∷
     record { worked = searched 0x231A; says = 13 ∷ [] } ∷
     -- "levels 0 and 50 pass, 0 and 49 give 11; 0 and 51 have middle 26, where 17 and 35 are unsure, 16 and 36 not"
     record { worked = levelled (0 ∷ 50 ∷ []); says = 0 ∷ 1 ∷ [] } ∷

@@ -1,4 +1,4 @@
--- A reading of one quad, from 01's "Quad to tag". Assumes nothing.
+-- A reading of one quad, from 01's "Quad to tag" and 02's ticket 2. Assumes nothing.
 use Prim.Native.Nat.{ℕ, _*_}
 use mathlib.Core.Bool.{Bool, not, _&&_, cond}
 use mathlib.Core.List.{List}

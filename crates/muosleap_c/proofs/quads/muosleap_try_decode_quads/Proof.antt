@@ -1,13 +1,14 @@
--- What the call leaves is what is said. Assumes nothing.
+-- What the call leaves on the plane described so is what is said. Assumes nothing.
 use borrow.Author.Needs.{needs}
 use Rattle.muosleap_c.proofs.quads.muosleap_try_decode_quads.Statement.{statement}
 use Rattle.muosleap_c.proofs.quads.muosleap_try_decode_quads.Tie as tie
 
 returns : tie.Need-returns
-returns c = c .before .before .before .before .try-decode-quads .ensures
+returns c = rw (c .before .before .before .before .before .before .before .frame-of .ensures) at (c .before .before .before .before .try-decode-quads .ensures)
 
 pub muosleap-try-decode-quads-spec : {M : Type 1} → statement M
 muosleap-try-decode-quads-spec = tie.close (tie.spec
+    (λ c κs. search needs)  -- frame-of-requires
     (λ c κs. search needs)  -- try-decode-quads-requires
     (λ c. search needs)  -- same-length
     (λ c. search needs)  -- same-length-2
