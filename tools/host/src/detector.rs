@@ -2,9 +2,10 @@
 //!
 //! # Wear
 //!
-//! Each answer says in how many modules the tag differs from its code: [`Tag::differing`], 0 for a clean tag of a table that passes the
-//! likeness check. Where the number of a sheet's tag rises from picture to picture, the tag is wearing out or getting dirty, and can be
-//! cleaned or replaced before it fails: at the match threshold of its table it is read no longer (refusal 13).
+//! Each answer says in how many modules the tag differs from its code: [`Tag::differing`], 0 for a clean tag of a table that
+//! passes the likeness check. Where the number of a sheet's tag rises from picture to picture, the tag is wearing out or getting
+//! dirty, and can be cleaned or replaced before it fails: at the match threshold it is not read as this tag any more. A family's
+//! is then refused (13); with a table of your own that only just passes the check it may even be read as another.
 //!
 //! | family | match threshold | `differing` of a tag that is read |
 //! |---|---|---|
@@ -12,9 +13,9 @@
 //! | T25H7, T25H9 | 2 | 0 or 1 |
 //! | T36H11, T36H11B1 | 3 | 0, 1 or 2 |
 //!
-//! It is the picture that is read: a module that glare or noise turns counts as one that is worn. And a module that fades counts only
-//! once it shows the other shade. Before that it is unsure, and more than three unsure modules are refusal 12, a tag that fades as a
-//! whole refusal 11, while the number may still be 0: watch for these refusals too.
+//! It is the picture that is read: a module that glare or noise turns counts as one that is worn. And a module that fades counts
+//! only once it shows the other shade. Before that it is unsure, and more than three unsure modules are refusal 12, a tag that
+//! fades as a whole refusal 11, while the number may still be 0: watch for these refusals too.
 
 use crate::refusal::accepted;
 use crate::{Family, Picture, Quad, Refusal, Table, c};
@@ -40,8 +41,8 @@ pub struct Tag {
     pub id: usize,
     /// How the quad was begun: turns from the quad's first corner to the print's, 0 to 3.
     pub turn: u8,
-    /// How many modules differ from the tag's code, always fewer than the match threshold. With a table that passes the likeness check
-    /// it is 0 for a clean tag, and the same from every corner that the quad begins with. It tells [wear](self#wear).
+    /// How many modules differ from the tag's code, always fewer than the match threshold. With a table that passes the likeness
+    /// check it is 0 for a clean tag, and the same from every corner that the quad begins with. It tells [wear](self#wear).
     pub differing: u8,
     /// The quad's corners in print order, whatever corner the quad began with.
     pub corners: Quad,

@@ -274,7 +274,8 @@ fn lists(calls: &mut Calls) {
     }
     // An output one number short, a row of three numbers a quad, none at all.
     for quads in [1, 2, 30, 1_024] {
-        for (rows, corners) in [(4 * quads - 1, 8 * quads), (3 * quads, 8 * quads), (0, 8 * quads), (4 * quads, 8 * quads - 1)] {
+        let (four, eight) = (4 * quads, 8 * quads);
+        for (rows, corners) in [(four - 1, eight), (3 * quads, eight), (0, eight), (four, eight - 1), (four, 0)] {
             list(calls, 16, [8 * quads, rows, corners], 0);
         }
     }
