@@ -26,20 +26,20 @@ use Rattle.painter.specs.declared.Print.{Print}
 use Rattle.painter.proofs.Painted.{length-painted}
 use Rattle.painter.proofs.Printable.{good-print}
 use Rattle.reader.specs.Reading.{Tag, reading}
-use Rattle.listing.specs.Listing.{quadCount, Listing, rowOf, cornersOf, rowAt, butTurn}
-use Rattle.listing.proofs.Listing.{row-is, corners-are}
+use Rattle.listing.specs.Listing.{rowOf, cornersOf, rowAt, butTurn}
 use Rattle.muosleap.specs.Likeness.{checkLikeness}
 use Rattle.muosleap.specs.PaintTag.{Painting, paintTag}
 use Rattle.muosleap.specs.Quad.{decodeQuad, decodeQuadIn}
 use Rattle.muosleap.specs.Quads.{decodeQuads}
 use Rattle.muosleap.proofs.Order.{quad-1, quad-read}
-use Rattle.muosleap.proofs.ListReading.{accepted-means, in-is}
+use Rattle.muosleap.proofs.ListReading.{in-is}
 use Rattle.muosleap.proofs.PaintTag.{paint-done, paint-accepted, paint-in}
 use Rattle.paper.specs.Starts.{fromStart}
 use Rattle.paper.specs.Demand3.{Passes, misprints, Painted, printOrder, ownTag, ReadsOwn, OtherStart, Demand3}
 use Rattle.paper.proofs.Starts.{start-alike}
 use Rattle.paper.proofs.Clear.{Printed}
 use Rattle.paper.proofs.Painted.{painted-read}
+use Rattle.paper.proofs.Listed.{listed-alone}
 
 -- ---- what the hypotheses say
 
@@ -105,16 +105,16 @@ module _ (family : Family) (codes : List ℕ) (id word : ℕ) (plane : List ℕ)
   same-frame =
       ap (λ (n : ℕ). badFrame n frame) (ap length (tag .shown-is) ∙ length-painted frame (family .edge) (family .border) word print plane) ∙ tag .prints .planes
 
+  own-alone : decodeQuad shown frame family codes (turnedLeft s quad) ≡ accepted (ownTag codes id word quad s)
+  own-alone = quad-read shown frame family codes (turnedLeft s quad) same-frame (check .table) ∙ own-reading
+
   reads-own : ReadsOwn family codes id word frame quad shown s
   reads-own = record {
-    alone = quad-read shown frame family codes (turnedLeft s quad) same-frame (check .table) ∙ own-reading;
+    alone = own-alone;
     listed = λ quads rows corners n i a l e.
-        let r = accepted-means shown frame quads rows corners family codes n a in
-        let i< : i < quadCount (length quads) = subst (λ (m : ℕ). i < m) (r .count) l in
-        let o : reading shown frame family codes (quadAt quads i) ≡ accepted (ownTag codes id word quad s) = ap (reading shown frame family codes) e ∙ own-reading in (
-          ap (λ (x : Listing). rowAt (x .rows) i) (r .outcome) ∙ row-is shown frame family codes quads rows corners i i< ∙ ap rowOf o,
-          ap (λ (x : Listing). cornersAt (x .corners) i) (r .outcome) ∙ corners-are shown frame family codes quads rows corners i i< ∙ ap cornersOf o,
-        );
+        let r = listed-alone shown frame family codes quads rows corners n i a l in
+        let o = ap (decodeQuad shown frame family codes) e ∙ own-alone in
+        (r .0 ∙ ap rowOf o, r .1 ∙ ap cornersOf o);
   }
 
 -- ---- any quad
@@ -142,10 +142,9 @@ corners-alike s (accepted tag) = refl
 corners-alike s (refused n) = refl
 
 module _ (plane : List ℕ) (frame : Frame) (family : Family) (codes : List ℕ) (passes : Passes family codes) where
-  other-start : (a b : Quad) (o : OtherStart a b) → reading plane frame family codes b ≡ fromStart (o .start) (reading plane frame family codes a)
+  other-start : (a b : Quad) (o : OtherStart a b) → decodeQuad plane frame family codes b ≡ fromStart (o .start) (decodeQuad plane frame family codes a)
   other-start a b o =
-      let c = checked family codes passes in
-      ap (reading plane frame family codes) (o .turned) ∙ start-alike family codes (c .table) (c .passes) (o .start) (o .start-lt) plane frame a
+      ap (decodeQuad plane frame family codes) (o .turned) ∙ any-quad-alike plane frame family codes a passes (o .start) (o .start-lt)
 
   lists-alike : (quads quads′ : List Float) (rows rows′ : List ℕ) (corners corners′ : List Float) (n n′ : ℕ)
       → decodeQuads plane frame family codes quads rows corners .answer ≡ accepted n → decodeQuads plane frame family codes quads′ rows′ corners′ .answer ≡ accepted n′ → n ≡ n′
@@ -153,19 +152,13 @@ module _ (plane : List ℕ) (frame : Frame) (family : Family) (codes : List ℕ)
       → (butTurn (rowAt (decodeQuads plane frame family codes quads rows corners .rows) i) ≡ butTurn (rowAt (decodeQuads plane frame family codes quads′ rows′ corners′ .rows) i))
       × (cornersAt (decodeQuads plane frame family codes quads rows corners .corners) i ≡ cornersAt (decodeQuads plane frame family codes quads′ rows′ corners′ .corners) i)
   lists-alike quads quads′ rows rows′ corners corners′ n n′ a a′ same starts i l =
-      let r = accepted-means plane frame quads rows corners family codes n a in
-      let r′ = accepted-means plane frame quads′ rows′ corners′ family codes n′ a′ in
-      let i< : i < quadCount (length quads) = subst (λ (m : ℕ). i < m) (r .count) l in
-      let i<′ : i < quadCount (length quads′) = subst (λ (m : ℕ). i < m) (same ∙ r′ .count) l in
+      let r = listed-alone plane frame family codes quads rows corners n i a l in
+      let r′ = listed-alone plane frame family codes quads′ rows′ corners′ n′ i a′ (subst (λ (m : ℕ). i < m) same l) in
       let o = starts i l in
-      let read = reading plane frame family codes (quadAt quads i) in
-      let other = other-start (quadAt quads i) (quadAt quads′ i) o in
-      let row = ap (λ (x : Listing). rowAt (x .rows) i) (r .outcome) ∙ row-is plane frame family codes quads rows corners i i< in
-      let row′ = ap (λ (x : Listing). rowAt (x .rows) i) (r′ .outcome) ∙ row-is plane frame family codes quads′ rows′ corners′ i i<′ in
-      let corner = ap (λ (x : Listing). cornersAt (x .corners) i) (r .outcome) ∙ corners-are plane frame family codes quads rows corners i i< in
-      let corner′ = ap (λ (x : Listing). cornersAt (x .corners) i) (r′ .outcome) ∙ corners-are plane frame family codes quads′ rows′ corners′ i i<′ in (
-        ap butTurn row ∙ row-alike (o .start) read ∙ ap (λ (x : Outcome Tag). butTurn (rowOf x)) (sym other) ∙ ap butTurn (sym row′),
-        corner ∙ corners-alike (o .start) read ∙ ap cornersOf (sym other) ∙ sym corner′,
+      let read = decodeQuad plane frame family codes (quadAt quads i) in
+      let other = other-start (quadAt quads i) (quadAt quads′ i) o in (
+        ap butTurn (r .0) ∙ row-alike (o .start) read ∙ ap (λ (x : Outcome Tag). butTurn (rowOf x)) (sym other) ∙ ap butTurn (sym (r′ .0)),
+        r .1 ∙ corners-alike (o .start) read ∙ ap cornersOf (sym other) ∙ sym (r′ .1),
       )
 
 -- ---- by family number

@@ -27,13 +27,12 @@ use Rattle.search.specs.Search.{Seen, search}
 use Rattle.search.proofs.Search.{Means, search-means}
 use Rattle.reader.specs.Reading.{samplesInside, levelsOf, Tag, withCorners, tagOf, reading}
 use Rattle.reader.proofs.Order.{reading-8, reading-9, reading-10, reading-on}
-use Rattle.listing.specs.Listing.{quadCount, Listing, rowOf, cornersOf, rowAt}
-use Rattle.listing.proofs.Listing.{row-is, corners-are}
+use Rattle.listing.specs.Listing.{Listing, rowOf, cornersOf, rowAt}
 use Rattle.muosleap.specs.Codes.{bestTag}
 use Rattle.muosleap.specs.Quad.{decodeQuad, decodeQuadIn}
-use Rattle.muosleap.specs.Quads.{decodeQuads, decodeQuadsIn}
+use Rattle.muosleap.specs.Quads.{decodeQuadsIn}
 use Rattle.muosleap.proofs.Order.{quad-1, quad-6, quad-read, in-1, in-6}
-use Rattle.muosleap.proofs.ListReading.{accepted-means}
+use Rattle.paper.proofs.Listed.{listed-alone}
 use Rattle.paper.proofs.Demand3.{demand-3}
 use Rattle.paper.specs.HowFarOff.{distance, FewestAnswered, PassedOn, HowFarOff}
 
@@ -148,18 +147,6 @@ passed-on-in plane frame number quad tag e = known (ltb number 5) refl
     known false b = unknown (ltb-false number 5 b) (badFrame (length plane) frame) refl
 
 -- ---- the list reader
-
-listed-alone : (plane : List ℕ) (frame : Frame) (family : Family) (codes : List ℕ) (quads : List Float) (rows : List ℕ) (corners : List Float) (n i : ℕ)
-    → let result = decodeQuads plane frame family codes quads rows corners in
-    let read = decodeQuad plane frame family codes (quadAt quads i) in
-    result .answer ≡ accepted n → i < n → (rowAt (result .rows) i ≡ rowOf read) × (cornersAt (result .corners) i ≡ cornersOf read)
-listed-alone plane frame family codes quads rows corners n i a l =
-    let r = accepted-means plane frame quads rows corners family codes n a in
-    let i< : i < quadCount (length quads) = subst (λ (m : ℕ). i < m) (r .count) l in
-    let alone = sym (quad-read plane frame family codes (quadAt quads i) (r .good-frame) (r .good-table)) in (
-      ap (λ (x : Listing). rowAt (x .rows) i) (r .outcome) ∙ row-is plane frame family codes quads rows corners i i< ∙ ap rowOf alone,
-      ap (λ (x : Listing). cornersAt (x .corners) i) (r .outcome) ∙ corners-are plane frame family codes quads rows corners i i< ∙ ap cornersOf alone,
-    )
 
 module _ (plane : List ℕ) (frame : Frame) (number : ℕ) (quads : List Float) (rows : List ℕ) (corners : List Float) (n i : ℕ) where
   abbrev result : Listing
