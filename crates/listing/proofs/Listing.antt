@@ -7,6 +7,7 @@ use Prim.Native.Nat.{ℕ, _*_, _<_}
 use native.Mathlib.Omega.{arith}
 use lib.Ieee.{Float}
 use lib.ListN.{length, getD, drop}
+use Rattle.lists.specs.Front.{inFront}
 use Rattle.lists.proofs.Tab.{length-tabulate, getD-tabulate}
 use Rattle.lists.proofs.Rows.{tabulate-ext}
 use Rattle.refusals.specs.Outcome.{Outcome, accepted, refused}
@@ -15,8 +16,8 @@ use Rattle.points.specs.declared.Quad.{Quad}
 use Rattle.points.specs.Numbers.{quadSize, quadAt, cornersAt}
 use Rattle.tables.specs.declared.Family.{Family}
 use Rattle.reader.specs.Reading.{Tag, reading}
-use Rattle.listing.specs.Listing.{rowSize, quadCount, badList, rowOf, cornersOf, readings, inFront, Listing, listingOf, listing, rowAt}
-use Rattle.listing.proofs.Flat.{length-in-front, length-flat, part-at, behind}
+use Rattle.listing.specs.Listing.{rowSize, quadCount, badList, rowOf, cornersOf, readings, Listing, listingOf, listing, rowAt}
+use Rattle.lists.proofs.Flat.{length-in-front, length-flat, part-at, behind}
 use Rattle.listing.proofs.Room.{good-list}
 
 pub row-size : (o : Outcome Tag) → length (rowOf o) ≡ rowSize

@@ -7,6 +7,7 @@ use lib.Dec.{eqb, ltb}
 use lib.Ieee.{Float, binary32, ofBits}
 use lib.ListN.{length, take, drop, replicate}
 use Rattle.lists.specs.Tab.{tabulate}
+use Rattle.lists.specs.Front.{inFront}
 use Rattle.refusals.specs.Outcome.{Outcome, accepted, refused}
 use Rattle.refusals.specs.declared.Frame.{Frame}
 use Rattle.points.specs.Numbers.{quadSize, quadAt, numbersOf}
@@ -46,10 +47,6 @@ unfoldable pub readings : List ℕ → Frame → Family → List ℕ → List Fl
 unfolding tabulate reading
 readings plane frame family codes quads =
     tabulate (quadCount (length quads)) (λ q. reading plane frame family codes (quadAt quads q))
-
--- numbers at the front of an output: "extra output is untouched"
-abbrev pub inFront {ℓ} : {A : Type ℓ} → List A → List A → List A
-inFront numbers output = numbers ++ drop (length numbers) output
 
 -- what a call leaves: its answer, which is the number of quads, and the two outputs
 pub record Listing : Type 0 where

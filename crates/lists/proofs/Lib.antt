@@ -6,3 +6,4 @@ pub mod Sum
 pub mod Each
 pub mod Part
 pub mod Rows
+pub mod Flat

@@ -1,3 +1,4 @@
 pub mod Tab
 pub mod Sum
 pub mod Each
+pub mod Front

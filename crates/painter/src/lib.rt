@@ -31,7 +31,7 @@ pub struct Cell {
 }
 
 // The cells in a row of a tag's square.
-fn side_of(edge: u8, border: u8) -> usize
+pub fn side_of(edge: u8, border: u8) -> usize
     ensures { λ r. ⌜ r ≡ sideOf edge border ⌝ }
 {
     edge as usize + 2 * (border as usize)
@@ -236,7 +236,7 @@ pub fn print_quad(edge: u8, border: u8, print: Print) -> Quad
 }
 
 // In a line of `pixels`, `size` of them from `at` on leave not one behind them.
-fn ends_late(pixels: usize, at: usize, size: usize) -> bool
+pub fn ends_late(pixels: usize, at: usize, size: usize) -> bool
     ensures { λ r. ⌜ r ≡ endsLate pixels at size ⌝ }
 {
     if pixels <= size {

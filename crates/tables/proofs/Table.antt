@@ -17,7 +17,7 @@ pub record Within (lo hi n : ℕ) : Type 0 where
   pub least : lo ≤ n
   pub most : n ≤ hi
 
-within : (lo hi n : ℕ) → outside lo hi n ≡ false → Within lo hi n
+pub within : (lo hi n : ℕ) → outside lo hi n ≡ false → Within lo hi n
 within lo hi n e = record { least = ltb-false n lo (or-left (ltb n lo) (ltb hi n) e); most = ltb-false hi n (or-right (ltb n lo) (ltb hi n) e) }
 
 pub good-edge : (edge : ℕ) → badEdge edge ≡ false → Within 1 8 edge
@@ -60,3 +60,15 @@ good-table family codes e =
       borders = good-border (family .border) (or-left (badBorder (family .border)) c e);
       coded = good-codes (family .edge) (family .«hamming_distance») codes (or-right (badBorder (family .border)) c e);
     }
+
+-- its border and its edge by themselves
+pub table-border : (family : Family) (codes : List ℕ) → badTable family codes ≡ false → badBorder (family .border) ≡ false
+unfolding badTable
+table-border family codes e = or-left (badBorder (family .border)) (badCodes (family .edge) (family .«hamming_distance») codes) e
+
+pub table-edge : (family : Family) (codes : List ℕ) → badTable family codes ≡ false → badEdge (family .edge) ≡ false
+unfolding badTable badCodes
+table-edge family codes e =
+    let edge = badEdge (family .edge) in
+    let rest = outside 1 1024 (length codes) || (outside 1 64 (family .«hamming_distance») || not (all (inSquare (family .edge)) codes)) in
+    or-left edge rest (or-right (badBorder (family .border)) (edge || rest) e)

@@ -13,7 +13,7 @@ pub struct Family {
 }
 
 // `n` is not one of `lo`, .., `hi`.
-fn is_outside(lo: usize, hi: usize, n: usize) -> bool
+pub fn is_outside(lo: usize, hi: usize, n: usize) -> bool
     ensures { λ r. ⌜ r ≡ outside lo hi n ⌝ }
 {
     if n < lo {

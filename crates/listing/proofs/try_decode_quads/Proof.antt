@@ -6,11 +6,12 @@ use native.Mathlib.Omega.{arith}
 use lib.ListN.{length}
 use lib.Seq.{sets}
 use Rattle.lists.specs.Tab.{tabulate}
+use Rattle.lists.specs.Front.{inFront}
 use Rattle.refusals.specs.Outcome.{Outcome, accepted}
 use Rattle.reader.specs.Reading.{Tag, reading}
 use Rattle.points.specs.Numbers.{quadSize}
-use Rattle.listing.specs.Listing.{quadCount, rowSize, rowOf, cornersOf, readings, inFront, listingOf, listing}
-use Rattle.listing.proofs.Flat.{parts-none, parts-more}
+use Rattle.listing.specs.Listing.{quadCount, rowSize, rowOf, cornersOf, readings, listingOf, listing}
+use Rattle.lists.proofs.Flat.{parts-none, parts-more}
 use Rattle.listing.proofs.Room.{good-list}
 use Rattle.listing.proofs.Listing.{row-size, corners-size, read}
 use Rattle.listing.proofs.try_decode_quads.Statement.{statement}

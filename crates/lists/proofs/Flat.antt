@@ -7,9 +7,9 @@ use native.Mathlib.Numerals.{add-one}
 use native.Mathlib.Omega.{arith}
 use lib.ListN.{length, getD, take, drop, length-append}
 use lib.Seq.{sets, sets-eq, take-at, drop-at, drop-drop, drop-append-add, length-front, length-take-le}
 use Rattle.lists.specs.Tab.{tabulate}
+use Rattle.lists.specs.Front.{inFront}
 use Rattle.lists.proofs.Tab.{length-tabulate}
-use Rattle.listing.specs.Listing.{inFront}
 
 module _ {ℓ} {B : Type ℓ} where
   -- an output keeps its length

@@ -1,0 +1,5 @@
+pub mod Line
+pub mod Place
+pub mod Sheetable
+pub mod Tags
+pub mod Quads

@@ -1,0 +1,3 @@
+pub mod Sheet
+pub mod Quads
+pub mod Sheetable
