@@ -8,7 +8,6 @@ use Rattle.search.specs.Search.{Seen}
 use Rattle.reader.specs.Reading.{Tag}
 use Rattle.points.specs.Numbers.{numbersOf}
 use Rattle.listing.specs.Listing.{Listing}
-use Rattle.muosleap.specs.PaintTag.{Painting}
 use Rattle.outputs.specs.Outputs.{Output, Written}
 
 -- a code's search: the code's number, the turn and the number of differing modules
@@ -31,9 +30,3 @@ pub record ReadsTags (list : Listing) (r : ℕ) (rows : Output (List ℕ)) (corn
   pub answered : r ≡ number (list .answer)
   pub rows-left : rows .after ≡ list .rows
   pub corners-left : corners .after ≡ list .corners
-
--- a painting: the plane, and the painted tag's corners
-pub record PaintsTag (painting : Painting) (r : ℕ) (plane : Output (List ℕ)) (quad : Output (List Float)) : Type 0 where
-  pub answered : r ≡ number (painting .answer)
-  pub plane-left : plane .after ≡ painting .plane
-  pub quad-written : Written (painting .answer) numbersOf quad

@@ -1,7 +1,5 @@
-// Quads, lists of quads and the painter. The form with a lent table and the form by family number share what comes after the entry's answer.
-use muosleap::painting::Painted;
+// Quads and lists of quads. The form with a lent table and the form by family number share what comes after the entry's answer.
 use muosleap::quads::Listed;
-use painter::Print;
 use reader::Reading;
 use refusals::Frame;
 use tables::Family;
@@ -10,10 +8,9 @@ ghost use Rattle.refusals.specs.Outcome.{number};
 ghost use Rattle.reader.specs.Answer.{paperReading};
 ghost use Rattle.muosleap.specs.Quad.{decodeQuad, decodeQuadIn};
 ghost use Rattle.muosleap.specs.Quads.{decodeQuads, decodeQuadsIn, paperListed};
-ghost use Rattle.muosleap.specs.PaintTag.{paintTag, paintTagIn, paperPainted};
-ghost use Rattle.points.specs.Numbers.{quadAt, numbersOf};
-ghost use Rattle.outputs.specs.Outputs.{Gives, held};
-ghost use Rattle.c_tags.specs.Tags.{ReadsTag, ReadsTags, PaintsTag};
+ghost use Rattle.points.specs.Numbers.{quadAt};
+ghost use Rattle.outputs.specs.Outputs.{held};
+ghost use Rattle.c_tags.specs.Tags.{ReadsTag, ReadsTags};
 
 // A reading's outputs.
 fn put_tag(
@@ -122,46 +119,4 @@ pub fn try_decode_quads_in(
 {
     let listed = muosleap::quads::try_decode_quads_in(plane, frame, family, quads, rows, corners);
     list_number(listed)
-}
-
-// A painting's outputs.
-fn put_painted(painted: Painted, quad: &mut [f32; 8]) -> u32
-    ensures { λ r. ⌜ Gives (paperPainted painted) numbersOf r (held quad) ⌝ }
-{
-    match painted {
-        Painted::Tag(q) => {
-            points::put_quad(quad, 0, q);
-            0
-        }
-        Painted::Refused(n) => n as u32,
-    }
-}
-
-pub fn paint_tag(
-    plane: &mut [u8],
-    frame: Frame,
-    edge: u8,
-    border: u8,
-    word: u64,
-    print: Print,
-    quad: &mut [f32; 8],
-) -> u32
-    ensures { λ r. ⌜ PaintsTag (paintTag (now (plane .entry)) frame edge border word print) r (held plane) (held quad) ⌝ }
-{
-    let painted = muosleap::painting::paint_tag(plane, frame, edge, border, word, print);
-    put_painted(painted, quad)
-}
-
-pub fn paint_tag_in(
-    plane: &mut [u8],
-    frame: Frame,
-    family: u8,
-    word: u64,
-    print: Print,
-    quad: &mut [f32; 8],
-) -> u32
-    ensures { λ r. ⌜ PaintsTag (paintTagIn (now (plane .entry)) frame family word print) r (held plane) (held quad) ⌝ }
-{
-    let painted = muosleap::painting::paint_tag_in(plane, frame, family, word, print);
-    put_painted(painted, quad)
 }

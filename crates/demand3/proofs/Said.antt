@@ -13,7 +13,7 @@ use Rattle.painter.specs.declared.Print.{Print}
 use Rattle.reader.specs.Reading.{Tag}
 use Rattle.points.specs.Numbers.{quadAt, cornersAt}
 use Rattle.listing.specs.Listing.{Listing, rowAt}
-use Rattle.muosleap.specs.PaintTag.{Painting, paintTag}
+use Rattle.muosleap_paint.specs.PaintTag.{Painting, paintTag}
 use Rattle.muosleap.specs.Quad.{decodeQuad}
 use Rattle.muosleap.specs.Quads.{decodeQuads}
 use Rattle.paper.specs.Starts.{fromStart}

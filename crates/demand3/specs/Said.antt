@@ -12,7 +12,7 @@ use Rattle.tables.specs.declared.Family.{Family}
 use Rattle.painter.specs.declared.Print.{Print}
 use Rattle.reader.specs.Reading.{Tag}
 use Rattle.listing.specs.Listing.{Listing, listingOf, rowOf, cornersOf, rowAt}
-use Rattle.muosleap.specs.PaintTag.{paintTag}
+use Rattle.muosleap_paint.specs.PaintTag.{paintTag}
 use Rattle.muosleap.specs.Quad.{decodeQuad}
 use Rattle.muosleap.specs.Quads.{decodeQuads}
 use Rattle.paper.specs.Starts.{fromStart}

@@ -1,7 +1,7 @@
 // Demand 3 said of the code: functions that paint a tag and then read it, and that read the four starts of a quad. They are no
 // public entries. specs/Said.antt says what is proved of them.
-use muosleap::painting::Painted;
 use muosleap::quads::Listed;
+use muosleap_paint::painting::Painted;
 use painter::Print;
 use points::Quad;
 use reader::Reading;
@@ -34,7 +34,7 @@ pub fn paint_then_read(
 ) -> Reading
     ensures { λ r. ⌜ PaintedThenRead (now (plane .entry)) frame family (now (codes .entry)) word print start (paperReading r) (now (plane .exit)) ⌝ }
 {
-    let painted = muosleap::painting::paint_tag(
+    let painted = muosleap_paint::painting::paint_tag(
         plane,
         frame,
         family.edge,
@@ -127,7 +127,7 @@ pub fn list_starts(
     ensures { λ r. ⌜ StartsListed (now (plane .entry)) frame family (now (codes .entry)) word print (now (rows .entry)) (now (corners .entry))
         (now (plane .exit)) (listingOf (paperListed r) (now (rows .exit)) (now (corners .exit))) ⌝ }
 {
-    let painted = muosleap::painting::paint_tag(
+    let painted = muosleap_paint::painting::paint_tag(
         plane,
         frame,
         family.edge,

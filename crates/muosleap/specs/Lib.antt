@@ -3,4 +3,3 @@ pub mod Likeness
 pub mod BitCode
 pub mod Quad
 pub mod Quads
-pub mod PaintTag

@@ -1,26 +1,12 @@
-// Quads, lists of quads and the painter for C.
-use painter::Print;
-use refusals::Frame;
+// Quads and lists of quads for C.
+use crate::structs;
 use tables::Family;
-ghost use mathlib.Core.Path.{_≡_};
 ghost use Rattle.points.specs.Numbers.{quadAt};
 ghost use Rattle.muosleap.specs.Quad.{decodeQuad, decodeQuadIn};
 ghost use Rattle.muosleap.specs.Quads.{decodeQuads, decodeQuadsIn};
-ghost use Rattle.muosleap.specs.PaintTag.{paintTag, paintTagIn};
 ghost use Rattle.outputs.specs.Outputs.{held};
-ghost use Rattle.c_tags.specs.Tags.{ReadsTag, ReadsTags, PaintsTag};
-ghost use Rattle.muosleap_c.specs.Structs.{frameOf, tableOf, printOf};
-
-// The description of an 8-bit plane.
-fn frame_of(width: usize, height: usize, pitch: usize) -> Frame
-    ensures { λ r. ⌜ r ≡ frameOf width height pitch ⌝ }
-{
-    Frame {
-        width,
-        height,
-        pitch,
-    }
-}
+ghost use Rattle.c_tags.specs.Tags.{ReadsTag, ReadsTags};
+ghost use Rattle.muosleap_c.specs.Structs.{frameOf, tableOf};
 
 #[no_mangle]
 pub extern "C" fn muosleap_try_decode_quad(
@@ -47,7 +33,7 @@ pub extern "C" fn muosleap_try_decode_quad(
         border,
         hamming_distance,
     };
-    let frame = frame_of(width, height, pitch);
+    let frame = structs::frame_of(width, height, pitch);
     c_tags::quads::try_decode_quad(
         plane,
         frame,
@@ -77,7 +63,7 @@ pub extern "C" fn muosleap_try_decode_quad_in(
     ensures { λ r. ⌜ ReadsTag (decodeQuadIn (now (plane .entry)) (frameOf width height pitch) family (quadAt (now (quad .entry)) 0))
         r (held id) (held turn) (held differing) (held corners) ⌝ }
 {
-    let frame = frame_of(width, height, pitch);
+    let frame = structs::frame_of(width, height, pitch);
     c_tags::quads::try_decode_quad_in(plane, frame, family, quad, id, turn, differing, corners)
 }
 
@@ -105,7 +91,7 @@ pub extern "C" fn muosleap_try_decode_quads(
         border,
         hamming_distance,
     };
-    let frame = frame_of(width, height, pitch);
+    let frame = structs::frame_of(width, height, pitch);
     c_tags::quads::try_decode_quads(plane, frame, family, codes, quads, rows, corners)
 }
 
@@ -124,69 +110,6 @@ pub extern "C" fn muosleap_try_decode_quads_in(
         (decodeQuadsIn (now (plane .entry)) (frameOf width height pitch) family (now (quads .entry)) (now (rows .entry)) (now (corners .entry)))
         r (held rows) (held corners) ⌝ }
 {
-    let frame = frame_of(width, height, pitch);
+    let frame = structs::frame_of(width, height, pitch);
     c_tags::quads::try_decode_quads_in(plane, frame, family, quads, rows, corners)
-}
-
-#[no_mangle]
-pub extern "C" fn muosleap_paint_tag(
-    plane: &mut [u8],
-    width: usize,
-    height: usize,
-    pitch: usize,
-    edge: u8,
-    border: u8,
-    word: u64,
-    x: usize,
-    y: usize,
-    cell: usize,
-    turn: u8,
-    light: u8,
-    dark: u8,
-    quad: &mut [f32; 8],
-) -> u32
-    ensures { λ r. ⌜ PaintsTag (paintTag (now (plane .entry)) (frameOf width height pitch) edge border word (printOf x y cell turn light dark))
-        r (held plane) (held quad) ⌝ }
-{
-    let print = Print {
-        x,
-        y,
-        cell,
-        turn,
-        light,
-        dark,
-    };
-    let frame = frame_of(width, height, pitch);
-    c_tags::quads::paint_tag(plane, frame, edge, border, word, print, quad)
-}
-
-#[no_mangle]
-pub extern "C" fn muosleap_paint_tag_in(
-    plane: &mut [u8],
-    width: usize,
-    height: usize,
-    pitch: usize,
-    family: u8,
-    word: u64,
-    x: usize,
-    y: usize,
-    cell: usize,
-    turn: u8,
-    light: u8,
-    dark: u8,
-    quad: &mut [f32; 8],
-) -> u32
-    ensures { λ r. ⌜ PaintsTag (paintTagIn (now (plane .entry)) (frameOf width height pitch) family word (printOf x y cell turn light dark))
-        r (held plane) (held quad) ⌝ }
-{
-    let print = Print {
-        x,
-        y,
-        cell,
-        turn,
-        light,
-        dark,
-    };
-    let frame = frame_of(width, height, pitch);
-    c_tags::quads::paint_tag_in(plane, frame, family, word, print, quad)
 }

@@ -28,12 +28,12 @@ use Rattle.painter.proofs.Printable.{good-print}
 use Rattle.reader.specs.Reading.{Tag, reading}
 use Rattle.listing.specs.Listing.{rowOf, cornersOf, rowAt, butTurn}
 use Rattle.muosleap.specs.Likeness.{checkLikeness}
-use Rattle.muosleap.specs.PaintTag.{Painting, paintTag}
+use Rattle.muosleap_paint.specs.PaintTag.{Painting, paintTag}
 use Rattle.muosleap.specs.Quad.{decodeQuad, decodeQuadIn}
 use Rattle.muosleap.specs.Quads.{decodeQuads}
 use Rattle.muosleap.proofs.Order.{quad-1, quad-read}
 use Rattle.muosleap.proofs.ListReading.{in-is}
-use Rattle.muosleap.proofs.PaintTag.{paint-done, paint-accepted, paint-in}
+use Rattle.muosleap_paint.proofs.PaintTag.{paint-done, paint-accepted, paint-in}
 use Rattle.paper.specs.Starts.{fromStart}
 use Rattle.paper.specs.Demand3.{Passes, misprints, Painted, printOrder, ownTag, ReadsOwn, OtherStart, Demand3}
 use Rattle.paper.proofs.Starts.{start-alike}

@@ -30,7 +30,7 @@ use Rattle.reader.specs.Reading.{column, row, Tag, reading}
 use Rattle.reader.proofs.Depends.{Agree, reading-depends}
 use Rattle.listing.specs.Listing.{badList, Listing, listingOf, listing}
 use Rattle.listing.proofs.Listing.{listing-depends}
-use Rattle.muosleap.specs.PaintTag.{Painting, unpainted, paintTag, paintTagIn}
+use Rattle.muosleap_paint.specs.PaintTag.{Painting, unpainted, paintTag, paintTagIn}
 use Rattle.muosleap.specs.Quad.{decodeQuad, decodeQuadIn}
 use Rattle.muosleap.specs.Quads.{decodeQuads, decodeQuadsIn}
 use Rattle.paper.specs.Padded.{withoutFiller, packed, LeavesFiller, ReadsAlike, PaintsAlike, Padded}

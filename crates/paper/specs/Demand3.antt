@@ -17,7 +17,7 @@ use Rattle.painter.specs.declared.Print.{Print}
 use Rattle.reader.specs.Reading.{Tag}
 use Rattle.listing.specs.Listing.{rowOf, cornersOf, rowAt, butTurn}
 use Rattle.muosleap.specs.Likeness.{checkLikeness}
-use Rattle.muosleap.specs.PaintTag.{paintTag, paintTagIn}
+use Rattle.muosleap_paint.specs.PaintTag.{paintTag, paintTagIn}
 use Rattle.muosleap.specs.Quad.{decodeQuad, decodeQuadIn}
 use Rattle.muosleap.specs.Quads.{decodeQuads, decodeQuadsIn}
 use Rattle.paper.specs.Starts.{fromStart}

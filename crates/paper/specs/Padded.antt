@@ -14,7 +14,7 @@ use Rattle.points.specs.declared.Quad.{Quad}
 use Rattle.tables.specs.declared.Family.{Family}
 use Rattle.painter.specs.Tag.{paintedPixel, painted}
 use Rattle.painter.specs.declared.Print.{Print}
-use Rattle.muosleap.specs.PaintTag.{Painting, paintTag, paintTagIn}
+use Rattle.muosleap_paint.specs.PaintTag.{Painting, paintTag, paintTagIn}
 use Rattle.muosleap.specs.Quad.{decodeQuad, decodeQuadIn}
 use Rattle.muosleap.specs.Quads.{decodeQuads, decodeQuadsIn}
 

@@ -1,9 +1,9 @@
 // One tag, painted and read from its four starts.
 use muosleap::detector::try_decode_quad;
 use muosleap::detector::try_decode_quad_in;
-use muosleap::painting::Painted;
-use muosleap::painting::paint_tag;
-use muosleap::painting::paint_tag_in;
+use muosleap_paint::painting::Painted;
+use muosleap_paint::painting::paint_tag;
+use muosleap_paint::painting::paint_tag_in;
 use painter::Print;
 use points::Quad;
 use points::answer_corners;

@@ -2,9 +2,9 @@
 use crate::padded;
 use crate::padded::Seen;
 use crate::quads::reading_alike;
-use muosleap::painting::Painted;
-use muosleap::painting::paint_tag;
-use muosleap::painting::paint_tag_in;
+use muosleap_paint::painting::Painted;
+use muosleap_paint::painting::paint_tag;
+use muosleap_paint::painting::paint_tag_in;
 use painter::Print;
 use points::Quad;
 use points::rotate_left;

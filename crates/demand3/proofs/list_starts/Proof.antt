@@ -3,8 +3,8 @@ use mathlib.Core.Path.{sym, ap, _∙_}
 use mathlib.Core.List.{List}
 use lib.Ieee.{Float}
 use borrow.Author.Needs.{needs}
-use Rattle.muosleap.specs.declared.painting.Painted.{Painted}
-use Rattle.muosleap.specs.PaintTag.{paperPainted}
+use Rattle.muosleap_paint.specs.declared.painting.Painted.{Painted}
+use Rattle.muosleap_paint.specs.PaintTag.{paperPainted}
 use Rattle.muosleap.specs.Quads.{decodeQuads}
 use Rattle.demand3.specs.Said.{listPrint}
 use Rattle.demand3.proofs.Said.{starts-listed}

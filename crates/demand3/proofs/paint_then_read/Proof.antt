@@ -2,8 +2,8 @@
 use mathlib.Core.Path.{sym, ap, _∙_}
 use borrow.Author.Needs.{needs}
 use Rattle.points.specs.declared.Quad.{Quad}
-use Rattle.muosleap.specs.declared.painting.Painted.{Painted}
-use Rattle.muosleap.specs.PaintTag.{paperPainted}
+use Rattle.muosleap_paint.specs.declared.painting.Painted.{Painted}
+use Rattle.muosleap_paint.specs.PaintTag.{paperPainted}
 use Rattle.muosleap.specs.Quad.{decodeQuad}
 use Rattle.demand3.specs.Said.{readPrint}
 use Rattle.demand3.proofs.Said.{painted-then-read}

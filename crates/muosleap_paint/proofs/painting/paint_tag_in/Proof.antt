@@ -2,11 +2,11 @@
 use mathlib.Core.Path.{sym, ap, _∙_}
 use borrow.Author.Tests.{lt-ltb, le-ltb}
 use Rattle.tables.specs.declared.Family.{Family}
-use Rattle.muosleap.specs.PaintTag.{paintTag, paintTagIn}
-use Rattle.muosleap.proofs.PaintTag.{paint-in}
+use Rattle.muosleap_paint.specs.PaintTag.{paintTag, paintTagIn}
+use Rattle.muosleap_paint.proofs.PaintTag.{paint-in}
 use borrow.Author.Needs.{needs}
-use Rattle.muosleap.proofs.painting.paint_tag_in.Statement.{statement}
-use Rattle.muosleap.proofs.painting.paint_tag_in.Tie as tie
+use Rattle.muosleap_paint.proofs.painting.paint_tag_in.Statement.{statement}
+use Rattle.muosleap_paint.proofs.painting.paint_tag_in.Tie as tie
 
 returns : tie.Need-returns
 unfolding paintTagIn

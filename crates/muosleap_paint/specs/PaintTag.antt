@@ -14,8 +14,8 @@ use Rattle.painter.specs.Tag.{painted}
 use Rattle.painter.specs.Corners.{printQuad}
 use Rattle.painter.specs.Printable.{badPrint}
 use Rattle.painter.specs.declared.Print.{Print}
-use Rattle.muosleap.specs.declared.painting.Painted.{Painted}
-use Rattle.muosleap.specs.declared.painting.Painted.the-variants.{Tag, Refused}
+use Rattle.muosleap_paint.specs.declared.painting.Painted.{Painted}
+use Rattle.muosleap_paint.specs.declared.painting.Painted.the-variants.{Tag, Refused}
 
 -- the answer of a painting in 01's numbers
 abbrev pub paperPainted : Painted → Outcome Quad

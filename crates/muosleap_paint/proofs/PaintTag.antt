@@ -18,7 +18,7 @@ use Rattle.painter.specs.Corners.{printQuad}
 use Rattle.painter.specs.Printable.{badPrint, Printable}
 use Rattle.painter.specs.declared.Print.{Print}
 use Rattle.painter.proofs.Painted.{drawn-filled}
-use Rattle.muosleap.specs.PaintTag.{Painting, unpainted, paintTag, paintTagIn}
+use Rattle.muosleap_paint.specs.PaintTag.{Painting, unpainted, paintTag, paintTagIn}
 
 -- the outcome by the three tests
 abbrev byTests : List ℕ → Painting → (one six fourteen : Bool) → Painting

@@ -1,7 +1,7 @@
 -- What the call leaves on the plane described so is what is said. Assumes nothing.
 use borrow.Author.Needs.{needs}
-use Rattle.muosleap_c.proofs.quads.muosleap_paint_tag_in.Statement.{statement}
-use Rattle.muosleap_c.proofs.quads.muosleap_paint_tag_in.Tie as tie
+use Rattle.muosleap_c.proofs.painting.muosleap_paint_tag_in.Statement.{statement}
+use Rattle.muosleap_c.proofs.painting.muosleap_paint_tag_in.Tie as tie
 
 returns : tie.Need-returns
 returns c = rw (c .before .before .before .before .before .frame-of .ensures) at (c .before .before .paint-tag-in .ensures)

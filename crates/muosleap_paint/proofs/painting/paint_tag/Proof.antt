@@ -7,11 +7,11 @@ use Rattle.refusals.specs.Pixels.{badFrame}
 use Rattle.painter.specs.Printable.{Printable}
 use Rattle.painter.proofs.Picture.{length-repainted}
 use Rattle.painter.proofs.Printable.{good-print}
-use Rattle.muosleap.specs.PaintTag.{paintTag}
-use Rattle.muosleap.proofs.PaintTag.{paint-steps}
+use Rattle.muosleap_paint.specs.PaintTag.{paintTag}
+use Rattle.muosleap_paint.proofs.PaintTag.{paint-steps}
 use borrow.Author.Needs.{needs}
-use Rattle.muosleap.proofs.painting.paint_tag.Statement.{statement}
-use Rattle.muosleap.proofs.painting.paint_tag.Tie as tie
+use Rattle.muosleap_paint.proofs.painting.paint_tag.Statement.{statement}
+use Rattle.muosleap_paint.proofs.painting.paint_tag.Tie as tie
 
 returns : tie.Need-returns
 unfolding paintTag

@@ -4,8 +4,8 @@ use denote.Ref.{now}
 use lib.ListN.{length}
 use Rattle.points.proofs.Numbers.{filled}
 use borrow.Author.Needs.{needs}
-use Rattle.c_tags.proofs.quads.put_painted.Statement.{statement}
-use Rattle.c_tags.proofs.quads.put_painted.Tie as tie
+use Rattle.c_paint.proofs.put_painted.Statement.{statement}
+use Rattle.c_paint.proofs.put_painted.Tie as tie
 
 returns : tie.Need-returns
 returns c =

@@ -3,7 +3,7 @@ use painter::Print;
 use points::Quad;
 use refusals::Frame;
 ghost use mathlib.Core.Path.{_≡_};
-ghost use Rattle.muosleap.specs.PaintTag.{paperPainted, Painting, paintTag, paintTagIn};
+ghost use Rattle.muosleap_paint.specs.PaintTag.{paperPainted, Painting, paintTag, paintTagIn};
 
 pub enum Painted {
     Tag(Quad),
