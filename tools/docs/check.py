@@ -13,7 +13,7 @@ import sys
 from pathlib import Path
 
 ROOT = Path(__file__).resolve().parents[2]
-ROOTS = ["muosleap", "muosleap_picture", "muosleap_c", "paper", "demand3", "readbits_lines"]
+ROOTS = ["muosleap", "muosleap_paint", "muosleap_picture", "muosleap_c", "paper", "demand3", "readbits_lines"]
 ARCHITECTURE = ROOT / "docs/ARCHITECTURE.md"
 TRACE = ROOT / "docs/TRACE.md"
 LIST = re.compile(r"(?<=<!-- definitions -->\n).*?(?=<!-- end -->)", re.S)

@@ -1,4 +1,4 @@
--- What the calls for C on tags return and leave, told by what the entry's own definition says. Assumes nothing.
+-- What the calls for C that read tags return and leave, told by what the entry's own definition says. Assumes nothing.
 use Prim.Native.Nat.{ℕ}
 use mathlib.Core.Path.{_≡_}
 use mathlib.Core.List.{List}
