@@ -6,6 +6,7 @@ use lib.Ieee.{Float}
 use Rattle.refusals.specs.Outcome.{number}
 use Rattle.points.specs.Numbers.{numbersOf}
 use Rattle.muosleap_paint.specs.PaintTag.{Painting}
+use Rattle.muosleap_paint.specs.PaintSheet.{SheetPainting}
 use Rattle.outputs.specs.Outputs.{Output, Written}
 
 -- a painting: the plane, and the painted tag's corners
@@ -13,3 +14,9 @@ pub record PaintsTag (painting : Painting) (r : ℕ) (plane : Output (List ℕ))
   pub answered : r ≡ number (painting .answer)
   pub plane-left : plane .after ≡ painting .plane
   pub quad-written : Written (painting .answer) numbersOf quad
+
+-- a sheet's painting: the plane, and the output for the quads
+pub record PaintsSheet (painting : SheetPainting) (r : ℕ) (plane : Output (List ℕ)) (quads : Output (List Float)) : Type 0 where
+  pub answered : r ≡ number (painting .answer)
+  pub plane-left : plane .after ≡ painting .plane
+  pub quads-left : quads .after ≡ painting .quads

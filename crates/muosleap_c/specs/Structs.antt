@@ -4,6 +4,7 @@ use Rattle.refusals.specs.declared.Frame.{Frame}
 use Rattle.refusals.specs.declared.Shape.{Shape}
 use Rattle.tables.specs.declared.Family.{Family}
 use Rattle.painter.specs.declared.Print.{Print}
+use Rattle.grid.specs.declared.Grid.{Grid}
 
 abbrev pub frameOf : (width height pitch : ℕ) → Frame
 frameOf width height pitch = record { width = width; height = height; pitch = pitch }
@@ -16,3 +17,6 @@ tableOf edge border threshold = record { edge = edge; border = border; «hamming
 
 abbrev pub printOf : (x y cell turn light dark : ℕ) → Print
 printOf x y cell turn light dark = record { x = x; y = y; cell = cell; turn = turn; light = light; dark = dark }
+
+abbrev pub gridOf : (rows columns gap : ℕ) → Grid
+gridOf rows columns gap = record { rows = rows; columns = columns; gap = gap }

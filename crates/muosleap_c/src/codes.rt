@@ -1,5 +1,5 @@
 // Words, codes and levels for C.
-use tables::Family;
+use crate::structs;
 ghost use mathlib.Core.Path.{_≡_};
 ghost use Rattle.refusals.specs.Outcome.{number};
 ghost use Rattle.muosleap.specs.Codes.{turned, bestTag};
@@ -40,11 +40,7 @@ pub extern "C" fn muosleap_check_likeness(
 ) -> u32
     ensures { λ r. ⌜ r ≡ number (checkLikeness (tableOf edge border «hamming_distance») (now (codes .entry))) ⌝ }
 {
-    let family = Family {
-        edge,
-        border,
-        hamming_distance,
-    };
+    let family = structs::table_of(edge, border, hamming_distance);
     c_tags::codes::check_likeness(family, codes)
 }
 

@@ -1,6 +1,5 @@
 // Quads and lists of quads for C.
 use crate::structs;
-use tables::Family;
 ghost use Rattle.points.specs.Numbers.{quadAt};
 ghost use Rattle.muosleap.specs.Quad.{decodeQuad, decodeQuadIn};
 ghost use Rattle.muosleap.specs.Quads.{decodeQuads, decodeQuadsIn};
@@ -28,11 +27,7 @@ pub extern "C" fn muosleap_try_decode_quad(
         (decodeQuad (now (plane .entry)) (frameOf width height pitch) (tableOf edge border «hamming_distance») (now (codes .entry)) (quadAt (now (quad .entry)) 0))
         r (held id) (held turn) (held differing) (held corners) ⌝ }
 {
-    let family = Family {
-        edge,
-        border,
-        hamming_distance,
-    };
+    let family = structs::table_of(edge, border, hamming_distance);
     let frame = structs::frame_of(width, height, pitch);
     c_tags::quads::try_decode_quad(
         plane,
@@ -86,11 +81,7 @@ pub extern "C" fn muosleap_try_decode_quads(
         (now (quads .entry)) (now (rows .entry)) (now (corners .entry)))
         r (held rows) (held corners) ⌝ }
 {
-    let family = Family {
-        edge,
-        border,
-        hamming_distance,
-    };
+    let family = structs::table_of(edge, border, hamming_distance);
     let frame = structs::frame_of(width, height, pitch);
     c_tags::quads::try_decode_quads(plane, frame, family, codes, quads, rows, corners)
 }

@@ -1,1 +1,2 @@
 pub mod PaintTag
+pub mod PaintSheet
