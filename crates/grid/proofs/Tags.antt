@@ -123,6 +123,17 @@ module _ (family : Family) (codes : List ℕ) (grid : Grid) (print : Print) wher
       ap (λ (n : ℕ). shadeOf (family .edge) (family .border) (getD codes n 0) print (cellOf tag x y)) (sym (position-back grid position h))
       ∙ (λ j. shadeAt family codes grid print (sym (s .row-is) j) (sym (s .column-is) j) x y)
 
+  -- so in its own square a tag shows what the sheet does, whatever lay there
+  pub own-pixel : (position x y old old′ : ℕ) → position < tagCount grid → let tag = printOf family grid print position in
+      inBlock (tag .x) (tag .y) size size x y ≡ true
+      → sheetPixel family codes grid print x y old ≡ tagPixel (family .edge) (family .border) (getD codes position 0) tag x y old′
+  own-pixel position x y old old′ h e =
+      let tag = printOf family grid print position in
+      let s = in-square x y position h (is-in (tag .x) (tag .y) size size x y e) in
+      ap (λ (t : Bool). cond t (shade x y) old) (s .in-grid)
+      ∙ sym (own-shade position x y h e)
+      ∙ sym (ap (λ (t : Bool). cond t (shadeOf (family .edge) (family .border) (getD codes position 0) tag (cellOf tag x y)) old′) e)
+
   -- one tag more is drawn
   one-more : (position x y old : ℕ) → position < tagCount grid
       → tagPixel (family .edge) (family .border) (getD codes position 0) (printOf family grid print position) x y (firstTags position x y old) ≡ firstTags (position + 1) x y old

@@ -26,10 +26,12 @@ use Rattle.places.specs.Place.{axisOf, axesOf, modulePixel}
 use Rattle.places.proofs.Painted.{HalfBefore, half-1024ths, half-pixel, half-good, painted-across, painted-down}
 use Rattle.places.proofs.Turned.{bad-turned, outside-turned}
 use Rattle.painter.specs.Corners.{halfBefore, outerCorners, printQuad}
+use Rattle.painter.specs.Picture.{inBlock}
 use Rattle.painter.specs.Printable.{Printable}
 use Rattle.painter.specs.Tag.{sideOf, sizeOf, cellAt, turnedCell, moduleBit, shadeOf, quarter, painted}
 use Rattle.painter.specs.declared.Cell.{Cell}
 use Rattle.painter.specs.declared.Print.{Print}
+use Rattle.painter.proofs.Block.{block-in}
 use Rattle.painter.proofs.Half.{half-zero, half-suc}
 use Rattle.painter.proofs.Painted.{painted-middle}
 use Rattle.painter.proofs.Printable.{good-print, Good, cells-le}
@@ -170,6 +172,24 @@ module _ (len : ℕ) (frame : Frame) (family : Family) (word : ℕ) (print : Pri
   pub print-sampled : samplesInside frame family (axesOf (printQuad (family .edge) (family .border) print)) ≡ true
   unfolding samplesInside
   print-sampled = inside-start family upright frame (print .turn) ∙ each-of (samples family) (sampleInside frame family (axesOf upright)) inside-upright
+
+  -- a sample of the upright quad lies in the tag's square, and so does one of the print's
+  square-upright : (k : ℕ) → k < samples family → let size = sizeOf (family .edge) (family .border) print in
+      inBlock (print .x) (print .y) size size (column (axesOf upright) family k) (row (axesOf upright) family k) ≡ true
+  square-upright k h =
+      let i = cell-in (family .edge) k h in
+      let size = sizeOf (family .edge) (family .border) print in
+      let across = cells-le (family .border + k % family .edge) (sideOf (family .edge) (family .border)) (print .cell) (omega (arith, i .columns)) in
+      let down = cells-le (family .border + k / family .edge) (sideOf (family .edge) (family .border)) (print .cell) (omega (arith, i .rows)) in
+      ap₂ (inBlock (print .x) (print .y) size size) (column-upright k) (row-upright k)
+      ∙ block-in (print .x) (print .y) size size _ _ (omega arith) (omega (arith, across, ok .style .some)) (omega arith) (omega (arith, down, ok .style .some))
+
+  pub print-square : (k : ℕ) → k < samples family → let q = axesOf (printQuad (family .edge) (family .border) print) in let size = sizeOf (family .edge) (family .border) print in
+      inBlock (print .x) (print .y) size size (column q family k) (row q family k) ≡ true
+  print-square k h =
+      let size = sizeOf (family .edge) (family .border) print in
+      ap₂ (inBlock (print .x) (print .y) size size) (column-start family upright (print .turn) k h) (row-start family upright (print .turn) k h)
+      ∙ square-upright (sources (family .edge) (print .turn) k) (sources-lt (family .edge) (print .turn) k h)
 
   -- ---- the level of sample k is the shade of module k of the word
   module _ (plane : List ℕ) (whole : length plane ≡ len) where

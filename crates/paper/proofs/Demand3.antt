@@ -44,11 +44,11 @@ use Rattle.paper.proofs.Listed.{listed-alone}
 -- ---- what the hypotheses say
 
 -- a table that the likeness check's entry lets through
-record Checked (family : Family) (codes : List ℕ) : Type 0 where
-  table : badTable family codes ≡ false
-  passes : likeness (family .edge) (family .«hamming_distance») codes ≡ true
+pub record Checked (family : Family) (codes : List ℕ) : Type 0 where
+  pub table : badTable family codes ≡ false
+  pub passes : likeness (family .edge) (family .«hamming_distance») codes ≡ true
 
-checked : (family : Family) (codes : List ℕ) → Passes family codes → Checked family codes
+pub checked : (family : Family) (codes : List ℕ) → Passes family codes → Checked family codes
 unfolding checkLikeness
 checked family codes = go (badTable family codes) (likeness (family .edge) (family .«hamming_distance») codes) refl refl
   where
@@ -76,6 +76,17 @@ took plane frame edge border word print quad shown e =
     record { prints = prints; quad-is = cc; shown-is = ap (λ (x : Painting). x .plane) both }
 
 -- ---- painted tags
+
+-- a start that reads alone as its own tag reads so in every list
+pub own-listed : (family : Family) (codes : List ℕ) (id word : ℕ) (frame : Frame) (quad : Quad) (shown : List ℕ) (s : ℕ)
+    → decodeQuad shown frame family codes (turnedLeft s quad) ≡ accepted (ownTag codes id word quad s) → ReadsOwn family codes id word frame quad shown s
+own-listed family codes id word frame quad shown s alone = record {
+  alone = alone;
+  listed = λ quads rows corners n i a l e.
+      let r = listed-alone shown frame family codes quads rows corners n i a l in
+      let o = ap (decodeQuad shown frame family codes) e ∙ alone in
+      (r .0 ∙ ap rowOf o, r .1 ∙ ap cornersOf o);
+}
 
 module _ (family : Family) (codes : List ℕ) (id word : ℕ) (plane : List ℕ) (frame : Frame) (print : Print) (quad : Quad) (shown : List ℕ)
     (h : Painted family codes id word plane frame print quad shown) (s : ℕ) (start : s < 4) where
@@ -109,13 +120,7 @@ module _ (family : Family) (codes : List ℕ) (id word : ℕ) (plane : List ℕ)
   own-alone = quad-read shown frame family codes (turnedLeft s quad) same-frame (check .table) ∙ own-reading
 
   reads-own : ReadsOwn family codes id word frame quad shown s
-  reads-own = record {
-    alone = own-alone;
-    listed = λ quads rows corners n i a l e.
-        let r = listed-alone shown frame family codes quads rows corners n i a l in
-        let o = ap (decodeQuad shown frame family codes) e ∙ own-alone in
-        (r .0 ∙ ap rowOf o, r .1 ∙ ap cornersOf o);
-  }
+  reads-own = own-listed family codes id word frame quad shown s own-alone
 
 -- ---- any quad
 

@@ -46,6 +46,15 @@ unfolding differingIn
 ones-differing n a b ha hb =
     ones-sum n (bitXor a b) (xor-lt n a b ha hb) ∙ sum-ext n (bit (bitXor a b)) (λ k. differ (bit a k) (bit b k)) (λ k l. xor-bit a b k)
 
+-- a word differs from itself nowhere
+differ-same : (x : ℕ) → differ x x ≡ 0
+differ-same zero = refl
+differ-same (suc x) = differ-same x
+
+pub differing-same : (n a : ℕ) → differingIn n a a ≡ 0
+unfolding differingIn
+differing-same n a = sum-ext n (λ k. differ (bit a k) (bit a k)) (λ k. 0) (λ k l. differ-same (bit a k)) ∙ sum-none n
+
 -- "a turn keeps the number of differing bits": for every edge, and for any two words
 pub turn-differing : (e a b : ℕ) → differingIn (e * e) (turn e a) (turn e b) ≡ differingIn (e * e) a b
 unfolding differingIn
