@@ -1,16 +1,21 @@
-// Demand 3 said of the code: functions that paint a tag and then read it, and that read the four starts of a quad. They are no
-// public entries. specs/Said.antt says what is proved of them.
+// Demand 3 said of the code: functions that paint a tag and then read it, and that read the four starts of a quad; and 02's ticket 3: one
+// that paints a sheet and reads a quad of it. They are no public entries. specs/Said.antt and specs/Sheet.antt say what is proved of them.
+use grid::Grid;
 use muosleap::quads::Listed;
 use muosleap_paint::painting::Painted;
+use muosleap_paint::sheet::Sheet;
 use painter::Print;
 use points::Quad;
 use reader::Reading;
 use refusals::Frame;
 use tables::Family;
 ghost use mathlib.Core.Path.{_≡_};
+ghost use Prim.Native.Nat.{_<_};
+ghost use Rattle.grid.specs.Quads.{tagCount};
 ghost use Rattle.listing.specs.Listing.{listingOf};
 ghost use Rattle.reader.specs.Answer.{paperReading};
 ghost use Rattle.muosleap.specs.Quads.{paperListed};
+ghost use Rattle.demand3.specs.Sheet.{SheetThenRead};
 ghost use Rattle.demand3.specs.Said.{PaintedThenRead, StartsRead, startNumbers, StartsListed};
 
 // The readings of the four starts of a quad, start 0 first.
@@ -140,6 +145,33 @@ pub fn list_starts(
         Painted::Tag(quad) => {
             let quads = starts_of(quad);
             muosleap::quads::try_decode_quads(plane, frame, family, codes, &quads, rows, corners)
+        }
+    }
+}
+
+// Paints a sheet, and reads one start of the quad that stands at a position of it, on the plane as the painter left it. Where the
+// painter refuses, the answer is its number.
+pub fn paint_sheet_then_read(
+    plane: &mut [u8],
+    frame: Frame,
+    family: Family,
+    codes: &[u64],
+    grid: Grid,
+    print: Print,
+    quads: &mut [f32],
+    position: usize,
+    start: u8,
+) -> Reading
+    requires { ⌜ position < tagCount grid ⌝ }
+    ensures { λ r. ⌜ SheetThenRead (now (plane .entry)) frame family (now (codes .entry)) grid print (now (quads .entry)) position start
+        (paperReading r) (now (plane .exit)) (now (quads .exit)) ⌝ }
+{
+    let sheet = muosleap_paint::sheet::paint_sheet(plane, frame, family, codes, grid, print, quads);
+    match sheet {
+        Sheet::Refused(n) => Reading::Refused(n),
+        Sheet::Painted => {
+            let quad = points::rotate_left(points::quad_at(quads, position), start);
+            muosleap::detector::try_decode_quad(plane, frame, family, codes, quad)
         }
     }
 }

@@ -31,7 +31,7 @@ use Rattle.painter.specs.Printable.{Printable}
 use Rattle.painter.specs.Tag.{sideOf, sizeOf, cellAt, turnedCell, moduleBit, shadeOf, quarter, painted}
 use Rattle.painter.specs.declared.Cell.{Cell}
 use Rattle.painter.specs.declared.Print.{Print}
-use Rattle.painter.proofs.Block.{block-in}
+use Rattle.painter.proofs.Block.{is-in, block-in}
 use Rattle.painter.proofs.Half.{half-zero, half-suc}
 use Rattle.painter.proofs.Painted.{painted-middle}
 use Rattle.painter.proofs.Printable.{good-print, Good, cells-le}
@@ -159,21 +159,7 @@ module _ (len : ℕ) (frame : Frame) (family : Family) (word : ℕ) (print : Pri
       ∙ painted-down (print .y) side (print .cell) (family .border + k / family .edge) (family .border + k % family .edge) (ok .style .some) side-pos
       ∙ ap (λ (n : ℕ). print .y + n + print .cell / 2) (mul-comm (print .cell) (family .border + k / family .edge))
 
-  -- 10: a sample lies in the middle of its cell, which lies in the picture
-  middle-lt : (at n pixels : ℕ) → n < sideOf (family .edge) (family .border) → at + sizeOf (family .edge) (family .border) print < pixels → at + n * print .cell + print .cell / 2 < pixels
-  middle-lt at n pixels h l = omega (arith, cells-le n (sideOf (family .edge) (family .border)) (print .cell) h, ok .style .some)
-
-  inside-upright : (k : ℕ) → k < samples family → sampleInside frame family (axesOf upright) k ≡ true
-  inside-upright k h =
-      let i = cell-in (family .edge) k h in
-      ap₂ _&&_ (ap (λ (n : ℕ). ltb n (frame .width)) (column-upright k) ∙ lt-ltb _ (frame .width) (middle-lt (print .x) (family .border + k % family .edge) (frame .width) (omega (arith, i .columns)) (ok .placed .right)))
-      (ap (λ (n : ℕ). ltb n (frame .height)) (row-upright k) ∙ lt-ltb _ (frame .height) (middle-lt (print .y) (family .border + k / family .edge) (frame .height) (omega (arith, i .rows)) (ok .placed .low)))
-
-  pub print-sampled : samplesInside frame family (axesOf (printQuad (family .edge) (family .border) print)) ≡ true
-  unfolding samplesInside
-  print-sampled = inside-start family upright frame (print .turn) ∙ each-of (samples family) (sampleInside frame family (axesOf upright)) inside-upright
-
-  -- a sample of the upright quad lies in the tag's square, and so does one of the print's
+  -- a sample lies in the middle of its cell, so in the tag's square
   square-upright : (k : ℕ) → k < samples family → let size = sizeOf (family .edge) (family .border) print in
       inBlock (print .x) (print .y) size size (column (axesOf upright) family k) (row (axesOf upright) family k) ≡ true
   square-upright k h =
@@ -190,6 +176,19 @@ module _ (len : ℕ) (frame : Frame) (family : Family) (word : ℕ) (print : Pri
       let size = sizeOf (family .edge) (family .border) print in
       ap₂ (inBlock (print .x) (print .y) size size) (column-start family upright (print .turn) k h) (row-start family upright (print .turn) k h)
       ∙ square-upright (sources (family .edge) (print .turn) k) (sources-lt (family .edge) (print .turn) k h)
+
+  -- 10: the tag's square lies in the picture
+  inside-upright : (k : ℕ) → k < samples family → sampleInside frame family (axesOf upright) k ≡ true
+  inside-upright k h =
+      let size = sizeOf (family .edge) (family .border) print in
+      let x = column (axesOf upright) family k in
+      let y = row (axesOf upright) family k in
+      let i = is-in (print .x) (print .y) size size x y (square-upright k h) in
+      ap₂ _&&_ (lt-ltb x (frame .width) (omega (arith, i .across .to, ok .placed .right))) (lt-ltb y (frame .height) (omega (arith, i .down .to, ok .placed .low)))
+
+  pub print-sampled : samplesInside frame family (axesOf (printQuad (family .edge) (family .border) print)) ≡ true
+  unfolding samplesInside
+  print-sampled = inside-start family upright frame (print .turn) ∙ each-of (samples family) (sampleInside frame family (axesOf upright)) inside-upright
 
   -- ---- the level of sample k is the shade of module k of the word
   module _ (plane : List ℕ) (whole : length plane ≡ len) where
