@@ -11,7 +11,8 @@ use lib.ListN.{length, getD}
 use Rattle.lists.specs.Tab.{tabulate}
 use Rattle.lists.proofs.Rows.{tabulate-ext}
 use Rattle.lists.proofs.Bools.{and-left, and-right}
-use Rattle.refusals.specs.Outcome.{Outcome, accepted, refused}
+use Rattle.lists.specs.Front.{inFront}
+use Rattle.refusals.specs.Outcome.{Outcome, accepted, refused, Done}
 use Rattle.refusals.specs.Pixels.{packedFrame, badFrame, placeOf, levelAt}
 use Rattle.refusals.specs.declared.Frame.{Frame}
 use Rattle.refusals.proofs.Pixels.{place-column, good-frame}
@@ -23,14 +24,19 @@ use Rattle.places.specs.Place.{axesOf}
 use Rattle.painter.specs.Picture.{repaintedByte, repainted}
 use Rattle.painter.specs.Tag.{paintedPixel, painted}
 use Rattle.painter.specs.Corners.{printQuad}
-use Rattle.painter.specs.Printable.{badPrint}
+use Rattle.painter.specs.Printable.{badPrint, badStyle}
 use Rattle.painter.specs.declared.Print.{Print}
 use Rattle.painter.proofs.Picture.{length-repainted, pixel-repainted, filler-repainted}
+use Rattle.grid.specs.Sheet.{sheetPixel}
+use Rattle.grid.specs.Quads.{sheetQuads}
+use Rattle.grid.specs.Sheetable.{badGrid, badOutput}
+use Rattle.grid.specs.declared.Grid.{Grid}
 use Rattle.reader.specs.Reading.{column, row, Tag, reading}
 use Rattle.reader.proofs.Depends.{Agree, reading-depends}
 use Rattle.listing.specs.Listing.{badList, Listing, listingOf, listing}
 use Rattle.listing.proofs.Listing.{listing-depends}
 use Rattle.muosleap_paint.specs.PaintTag.{Painting, unpainted, paintTag, paintTagIn}
+use Rattle.muosleap_paint.specs.PaintSheet.{SheetPainting, paintingOf, paintSheet, paintSheetIn}
 use Rattle.muosleap.specs.Quad.{decodeQuad, decodeQuadIn}
 use Rattle.muosleap.specs.Quads.{decodeQuads, decodeQuadsIn}
 use Rattle.paper.specs.Padded.{withoutFiller, packed, LeavesFiller, ReadsAlike, PaintsAlike, Padded}
@@ -126,20 +132,26 @@ leaves-filler frame f plane = record {
       (ap (λ (n : ℕ). ltb n (frame .width)) (place-column frame x y to) ∙ le-ltb x (frame .width) from);
 }
 
--- what a painting of a plane and one of its lines without filler have in common
-abbrev Both : Frame → Painting → Painting → Type 0
-Both frame a b = (a .answer ≡ b .answer) × (withoutFiller frame (a .plane) ≡ b .plane)
+-- what a painting of a plane and one of its lines without filler have in common; what they have behind refusal 1 they have
+module _ {P A : Type 0} (told : P → A) (left : P → List ℕ) where
+  abbrev Both : Frame → P → P → Type 0
+  Both frame a b = (told a ≡ told b) × (withoutFiller frame (left a) ≡ left b)
 
--- what they have behind refusal 1 they have
-both-behind : (plane : List ℕ) (frame : Frame) → badFrame (length plane) frame ≡ false → (on on′ : Painting) → Both frame on on′
-    → Both frame (cond (badFrame (length plane) frame) (unpainted plane 1) on)
-    (cond (badFrame (length (withoutFiller frame plane)) (packed frame)) (unpainted (withoutFiller frame plane) 1) on′)
-both-behind plane frame good on on′ both = go (badFrame (length plane) frame) (badFrame (length (withoutFiller frame plane)) (packed frame)) good (good-packed plane frame good)
-  where
-    go : (t t′ : Bool) → t ≡ false → t′ ≡ false → Both frame (cond t (unpainted plane 1) on) (cond t′ (unpainted (withoutFiller frame plane) 1) on′)
-    go true t′ p q = absurd (true≢false p)
-    go false true p q = absurd (true≢false q)
-    go false false p q = both
+  both-behind : (plane : List ℕ) (frame : Frame) → badFrame (length plane) frame ≡ false → (one one′ on on′ : P) → Both frame on on′
+      → Both frame (cond (badFrame (length plane) frame) one on) (cond (badFrame (length (withoutFiller frame plane)) (packed frame)) one′ on′)
+  both-behind plane frame good one one′ on on′ both = go (badFrame (length plane) frame) (badFrame (length (withoutFiller frame plane)) (packed frame)) good (good-packed plane frame good)
+    where
+      go : (t t′ : Bool) → t ≡ false → t′ ≡ false → Both frame (cond t one on) (cond t′ one′ on′)
+      go true t′ p q = absurd (true≢false p)
+      go false true p q = absurd (true≢false q)
+      go false false p q = both
+
+-- a tag's painting
+abbrev answer-of : Painting → Outcome Quad
+answer-of p = p .answer
+
+abbrev plane-of : Painting → List ℕ
+plane-of p = p .plane
 
 module _ (plane : List ℕ) (frame : Frame) where
   -- 6 and 14 are tested alike, and refused paintings leave the plane
@@ -151,12 +163,12 @@ module _ (plane : List ℕ) (frame : Frame) where
     behind plane frame six fourteen = cond six (unpainted plane 6) (cond fourteen (unpainted plane 14) (painting plane frame))
 
     paint-lines : badFrame (length plane) frame ≡ false
-        → Both frame (paintTag plane frame edge border word print) (paintTag (withoutFiller frame plane) (packed frame) edge border word print)
+        → Both answer-of plane-of frame (paintTag plane frame edge border word print) (paintTag (withoutFiller frame plane) (packed frame) edge border word print)
     unfolding paintTag badPrint
     paint-lines good =
-        both-behind plane frame good _ _ (go (badEdge edge || badBorder border) (badPrint frame edge border word print))
+        both-behind answer-of plane-of plane frame good _ _ _ _ (go (badEdge edge || badBorder border) (badPrint frame edge border word print))
       where
-        go : (six fourteen : Bool) → Both frame (behind plane frame six fourteen) (behind (withoutFiller frame plane) (packed frame) six fourteen)
+        go : (six fourteen : Bool) → Both answer-of plane-of frame (behind plane frame six fourteen) (behind (withoutFiller frame plane) (packed frame) six fourteen)
         go true fourteen = (refl, refl)
         go false true = (refl, refl)
         go false false = (refl, repainted-lines frame (λ x y old. paintedPixel edge border word print x y) plane good)
@@ -176,12 +188,12 @@ module _ (plane : List ℕ) (frame : Frame) where
     in-family plane frame = paintTag plane frame (familyOf family .edge) (familyOf family .border) word print
 
     paint-in-lines : badFrame (length plane) frame ≡ false
-        → Both frame (paintTagIn plane frame family word print) (paintTagIn (withoutFiller frame plane) (packed frame) family word print)
+        → Both answer-of plane-of frame (paintTagIn plane frame family word print) (paintTagIn (withoutFiller frame plane) (packed frame) family word print)
     unfolding paintTagIn
     paint-in-lines good =
-        both-behind plane frame good _ _ (go (not (isFamily family)))
+        both-behind answer-of plane-of plane frame good _ _ _ _ (go (not (isFamily family)))
       where
-        go : (six : Bool) → Both frame (cond six (unpainted plane 6) (in-family plane frame))
+        go : (six : Bool) → Both answer-of plane-of frame (cond six (unpainted plane 6) (in-family plane frame))
             (cond six (unpainted (withoutFiller frame plane) 6) (in-family (withoutFiller frame plane) (packed frame)))
         go true = (refl, refl)
         go false = paint-lines (familyOf family .edge) (familyOf family .border) word print good
@@ -195,6 +207,80 @@ module _ (plane : List ℕ) (frame : Frame) where
         go false true = leaves-all frame plane
         go false false = paint-leaves (familyOf family .edge) (familyOf family .border) word print
 
+-- a sheet's painting
+abbrev told-of : SheetPainting → Outcome Done × List Float
+told-of p = (p .answer, p .quads)
+
+abbrev sheet-of : SheetPainting → List ℕ
+sheet-of p = p .plane
+
+module _ (plane : List ℕ) (frame : Frame) (grid : Grid) (print : Print) (quads : List Float) where
+  module _ (family : Family) (codes : List ℕ) where
+    abbrev pixel : ℕ → ℕ → ℕ → ℕ
+    pixel x y old = sheetPixel family codes grid print x y (print .light)
+
+    -- 6, 14, 17 and 16 are tested alike, and refused paintings leave the plane
+    abbrev sheet-behind : List ℕ → Frame → (six fourteen seventeen sixteen : Bool) → SheetPainting
+    sheet-behind plane frame six fourteen seventeen sixteen =
+        cond six (paintingOf (refused 6) plane quads)
+        (cond fourteen (paintingOf (refused 14) plane quads)
+        (cond seventeen (paintingOf (refused 17) plane quads)
+        (cond sixteen (paintingOf (refused 16) plane quads)
+        (paintingOf (accepted (record {})) (repainted frame pixel plane) (inFront (sheetQuads family grid print) quads)))))
+
+    sheet-lines : badFrame (length plane) frame ≡ false
+        → Both told-of sheet-of frame (paintSheet plane frame family codes grid print quads) (paintSheet (withoutFiller frame plane) (packed frame) family codes grid print quads)
+    unfolding paintSheet badGrid
+    sheet-lines good =
+        both-behind told-of sheet-of plane frame good _ _ _ _
+        (go (badTable family codes) (badStyle print) (badGrid frame family (length codes) grid print) (badOutput grid (length quads)))
+      where
+        go : (six fourteen seventeen sixteen : Bool)
+            → Both told-of sheet-of frame (sheet-behind plane frame six fourteen seventeen sixteen) (sheet-behind (withoutFiller frame plane) (packed frame) six fourteen seventeen sixteen)
+        go true fourteen seventeen sixteen = (refl, refl)
+        go false true seventeen sixteen = (refl, refl)
+        go false false true sixteen = (refl, refl)
+        go false false false true = (refl, refl)
+        go false false false false = (refl, repainted-lines frame pixel plane good)
+
+    sheet-leaves : LeavesFiller frame plane (paintSheet plane frame family codes grid print quads .plane)
+    unfolding paintSheet
+    sheet-leaves =
+        go (badFrame (length plane) frame) (badTable family codes) (badStyle print) (badGrid frame family (length codes) grid print) (badOutput grid (length quads))
+      where
+        go : (one six fourteen seventeen sixteen : Bool)
+            → LeavesFiller frame plane (cond one (paintingOf (refused 1) plane quads) (sheet-behind plane frame six fourteen seventeen sixteen) .plane)
+        go true six fourteen seventeen sixteen = leaves-all frame plane
+        go false true fourteen seventeen sixteen = leaves-all frame plane
+        go false false true seventeen sixteen = leaves-all frame plane
+        go false false false true sixteen = leaves-all frame plane
+        go false false false false true = leaves-all frame plane
+        go false false false false false = leaves-filler frame pixel plane
+
+  module _ (number : ℕ) where
+    abbrev sheet-in-family : List ℕ → Frame → SheetPainting
+    sheet-in-family plane frame = paintSheet plane frame (familyOf number) (codesOf number) grid print quads
+
+    sheet-in-lines : badFrame (length plane) frame ≡ false
+        → Both told-of sheet-of frame (paintSheetIn plane frame number grid print quads) (paintSheetIn (withoutFiller frame plane) (packed frame) number grid print quads)
+    unfolding paintSheetIn
+    sheet-in-lines good =
+        both-behind told-of sheet-of plane frame good _ _ _ _ (go (not (isFamily number)))
+      where
+        go : (six : Bool) → Both told-of sheet-of frame (cond six (paintingOf (refused 6) plane quads) (sheet-in-family plane frame))
+            (cond six (paintingOf (refused 6) (withoutFiller frame plane) quads) (sheet-in-family (withoutFiller frame plane) (packed frame)))
+        go true = (refl, refl)
+        go false = sheet-lines (familyOf number) (codesOf number) good
+
+    sheet-in-leaves : LeavesFiller frame plane (paintSheetIn plane frame number grid print quads .plane)
+    unfolding paintSheetIn
+    sheet-in-leaves = go (badFrame (length plane) frame) (not (isFamily number))
+      where
+        go : (one six : Bool) → LeavesFiller frame plane (cond one (paintingOf (refused 1) plane quads) (cond six (paintingOf (refused 6) plane quads) (sheet-in-family plane frame)) .plane)
+        go true six = leaves-all frame plane
+        go false true = leaves-all frame plane
+        go false false = sheet-leaves (familyOf number) (codesOf number)
+
 -- ---- two planes that agree off their filler
 
 reads-alike : {A : Type 0} (read : List ℕ → Frame → A)
@@ -207,31 +293,31 @@ reads-alike read lines = record {
       ∙ sym (lines other frame′ good′);
 }
 
-module _ (paint : List ℕ → Frame → Painting)
-    (lines : (plane : List ℕ) (frame : Frame) → badFrame (length plane) frame ≡ false → Both frame (paint plane frame) (paint (withoutFiller frame plane) (packed frame)))
-    (leaves : (plane : List ℕ) (frame : Frame) → LeavesFiller frame plane (paint plane frame .plane)) where
+module _ {P A : Type 0} (told : P → A) (left : P → List ℕ) (paint : List ℕ → Frame → P)
+    (lines : (plane : List ℕ) (frame : Frame) → badFrame (length plane) frame ≡ false → Both told left frame (paint plane frame) (paint (withoutFiller frame plane) (packed frame)))
+    (leaves : (plane : List ℕ) (frame : Frame) → LeavesFiller frame plane (left (paint plane frame))) where
   -- pixel (x, y) of the painted plane is that of the painted lines
   painted-pixel : (plane : List ℕ) (frame : Frame) → badFrame (length plane) frame ≡ false → (x y : ℕ) → x < frame .width → y < frame .height
-      → levelAt (paint plane frame .plane) frame x y ≡ levelAt (paint (withoutFiller frame plane) (packed frame) .plane) (packed frame) x y
+      → levelAt (left (paint plane frame)) frame x y ≡ levelAt (left (paint (withoutFiller frame plane) (packed frame))) (packed frame) x y
   painted-pixel plane frame good x y hx hy =
       let still = ap (λ (n : ℕ). badFrame n frame) (leaves plane frame .as-long) ∙ good in
-      sym (pixel-without (paint plane frame .plane) frame still x y hx hy)
+      sym (pixel-without (left (paint plane frame)) frame still x y hx hy)
       ∙ ap (λ (l : List ℕ). levelAt l (packed frame) x y) (lines plane frame good .1)
 
-  paints-alike : PaintsAlike paint
+  paints-alike : PaintsAlike told left paint
   paints-alike = record {
     lines = lines;
     filler = leaves;
     same = λ plane frame other frame′ good good′ same.
         let e = same-lines plane frame other frame′ good good′ same in
         let p = same-packed plane frame other frame′ good good′ same in (
-          lines plane frame good .0 ∙ ap₂ (λ (l : List ℕ) (f : Frame). paint l f .answer) e p ∙ sym (lines other frame′ good′ .0),
+          lines plane frame good .0 ∙ ap₂ (λ (l : List ℕ) (f : Frame). told (paint l f)) e p ∙ sym (lines other frame′ good′ .0),
           record {
             widths = same .widths;
             heights = same .heights;
             pixels = λ x y hx hy.
                 painted-pixel plane frame good x y hx hy
-                ∙ ap₂ (λ (l : List ℕ) (f : Frame). levelAt (paint l f .plane) f x y) e p
+                ∙ ap₂ (λ (l : List ℕ) (f : Frame). levelAt (left (paint l f)) f x y) e p
                 ∙ sym (painted-pixel other frame′ good′ x y (subst (λ (n : ℕ). x < n) (same .widths) hx) (subst (λ (n : ℕ). y < n) (same .heights) hy));
           },
         );
@@ -257,8 +343,12 @@ padded = record {
   quad-in = λ number quad. reads-alike _ (λ plane frame good. quad-in-lines plane frame good number quad);
   quads = λ family codes quads rows corners. reads-alike _ (λ plane frame good. quads-lines plane frame good quads rows corners family codes);
   quads-in = λ number quads rows corners. reads-alike _ (λ plane frame good. quads-in-lines plane frame good quads rows corners number);
-  paint = λ edge border word print. paints-alike _ (λ plane frame. paint-lines plane frame edge border word print) (λ plane frame. paint-leaves plane frame edge border word print);
-  paint-in = λ family word print. paints-alike _ (λ plane frame. paint-in-lines plane frame family word print) (λ plane frame. paint-in-leaves plane frame family word print);
+  paint = λ edge border word print. paints-alike answer-of plane-of _ (λ plane frame. paint-lines plane frame edge border word print) (λ plane frame. paint-leaves plane frame edge border word print);
+  paint-in = λ family word print. paints-alike answer-of plane-of _ (λ plane frame. paint-in-lines plane frame family word print) (λ plane frame. paint-in-leaves plane frame family word print);
+  sheet = λ family codes grid print quads.
+      paints-alike told-of sheet-of _ (λ plane frame. sheet-lines plane frame grid print quads family codes) (λ plane frame. sheet-leaves plane frame grid print quads family codes);
+  sheet-in = λ number grid print quads.
+      paints-alike told-of sheet-of _ (λ plane frame. sheet-in-lines plane frame grid print quads number) (λ plane frame. sheet-in-leaves plane frame grid print quads number);
   before-1 = before-1;
   before-place = λ width height x y. refl;
   before-painted = before-painted;

@@ -1,8 +1,7 @@
 -- The painter's answer, taken apart; then `sheet-then-read`. Assumes nothing.
-use mathlib.Core.Path.{_≡_, sym, ap, _∙_}
+use mathlib.Core.Path.{sym, ap, _∙_}
 use native.Mathlib.Omega.{arith}
 use borrow.Author.Needs.{needs}
-use lib.ListN.{length}
 use Rattle.points.specs.declared.Quad.{Quad}
 use Rattle.points.specs.Turned.{turnedLeft}
 use Rattle.grid.proofs.Sheetable.{room}
