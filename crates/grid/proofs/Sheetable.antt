@@ -112,6 +112,9 @@ module _ {len : ℕ} {frame : Frame} {family : Family} {codes : List ℕ} {grid 
   pub room : quadSize * tagCount grid ≤ numbers
   room = ltb-false numbers (quadSize * tagCount grid) (p .outputs)
 
+  pub tags-le : tagCount grid ≤ 1024
+  tags-le = omega (arith, good .counts .enough, good-table family codes (p .tables) .coded .count .most)
+
   pub code-known : (position : ℕ) → position < tagCount grid → position < length codes
   code-known position h = omega (arith, good .counts .enough)
 

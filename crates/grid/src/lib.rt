@@ -120,24 +120,16 @@ pub fn paint_sheet(
     ensures { λ r. ⌜ (now (plane .exit) ≡ sheet frame family (now (codes .entry)) grid print (now (plane .entry)))
         × (now (quads .exit) ≡ inFront (sheetQuads family grid print) (now (quads .entry))) ⌝ }
 {
-    painter::fill(plane, frame, print.light);
+    let edge = family.edge;
+    let border = family.border;
     let count = tag_count(grid);
+    painter::fill(plane, frame, print.light);
     let mut position = 0;
     while position < count {
         let tag = print_of(family, grid, print, position);
-        painter::draw_tag(
-            plane,
-            frame,
-            family.edge,
-            family.border,
-            codes[position],
-            tag,
-        );
-        points::put_quad(
-            quads,
-            position,
-            painter::print_quad(family.edge, family.border, tag),
-        );
+        painter::draw_tag(plane, frame, edge, border, codes[position], tag);
+        let quad = painter::print_quad(edge, border, tag);
+        points::put_quad(quads, position, quad);
         position += 1;
     }
 }

@@ -15,14 +15,14 @@ use Rattle.painter.specs.declared.Print.{Print}
 use Rattle.painter.proofs.Picture.{length-repainted}
 use Rattle.painter.proofs.Printable.{good-print}
 use Rattle.grid.specs.Quads.{tagCount}
-use Rattle.grid.proofs.Sheetable.{small-grid, room, code-known, tag-printable, few-tags}
+use Rattle.grid.proofs.Sheetable.{small-grid, room, tags-le, code-known, tag-printable, few-tags}
 use Rattle.grid.proofs.Tags.{firstTags, no-tags, tag-more, sheet-drawn}
 use Rattle.grid.proofs.Quads.{firstQuads, no-quads, quad-more, all-quads}
 use Rattle.grid.proofs.paint_sheet.Statement.{statement}
 use Rattle.grid.proofs.paint_sheet.Tie as tie
 
 abbrev Inv-loop : tie.InvT-loop
-Inv-loop plane₀ frame family codes grid print quads₀ count position₀ plane quads position =
+Inv-loop plane₀ frame family codes grid print quads₀ edge border count position₀ plane quads position =
     (count ≡ tagCount grid)
     × (position ≤ count)
     × (plane ≡ repainted frame (firstTags family codes grid print position) plane₀)
@@ -30,22 +30,22 @@ Inv-loop plane₀ frame family codes grid print quads₀ count position₀ plane
     × (length quads ≡ length quads₀)
 
 abbrev μ-loop : tie.MeasureT-loop
-μ-loop plane₀ frame family codes grid print quads₀ count position₀ plane quads position = count - position
-
-fill-requires : tie.Need-fill-requires Inv-loop μ-loop
-fill-requires c κs = c .before .before .before .before .pre .planes
+μ-loop plane₀ frame family codes grid print quads₀ edge border count position₀ plane quads position = count - position
 
 tag-count-requires : tie.Need-tag-count-requires Inv-loop μ-loop
 tag-count-requires c κs =
-    let n = few-tags (c .before .before .before .before .before .before .before .pre) in
+    let n = few-tags (c .before .before .before .pre) in
     (n .rows .most, n .columns .most)
+
+fill-requires : tie.Need-fill-requires Inv-loop μ-loop
+fill-requires c κs = c .before .before .before .before .before .pre .planes
 
 loop-holds : tie.Need-loop-holds Inv-loop μ-loop
 loop-holds c =
     let a = c .before .before .before .before .before .before .before .before .args in (
-      c .tag-count .ensures,
+      c .before .before .before .before .tag-count .ensures,
       omega arith,
-      no-tags (a .family) (a .codes .now) (a .grid) (a .print) (a .frame) (c .before .before .before .fill .last .0),
+      no-tags (a .family) (a .codes .now) (a .grid) (a .print) (a .frame) (c .before .before .fill .last .0),
       no-quads (a .family) (a .grid) (a .print) (a .quads .now),
       refl,
     )
@@ -79,7 +79,7 @@ printable c =
 long : (l : tie.At-loop Inv-loop μ-loop) → length (l .loop .plane) ≡ length (start l .args .plane .now)
 long l =
     let a = start l .args in
-    let f = l .before .before .before .before in
+    let f = l .before .before .before in
     ap length (l .loop .inv .2) ∙ length-repainted (a .frame) (firstTags (a .family) (a .codes .now) (a .grid) (a .print) (l .loop .position)) (f .fill .last .0)
     ∙ ap length (f .fill .ensures) ∙ length-repainted (a .frame) (λ x y old. a .print .light) (a .plane .now)
 
@@ -92,7 +92,7 @@ draw-tag-requires c κs =
 
 print-quad-requires : tie.Need-print-quad-requires Inv-loop μ-loop
 print-quad-requires c κs =
-    let g = good-print (printable (c .before .before .before .before .before .before)) in
+    let g = good-print (printable (c .before .before .before .before .before)) in
     (omega (arith, g .placed .right, g .framed .sides .width-le), omega (arith, g .placed .low, g .framed .sides .height-le))
 
 -- there is room for the quad
@@ -121,10 +121,10 @@ loop-again c =
     let tag = c .before .before .before .before .before .before .before .before .before .before .print-of .ensures in (
       l .loop .inv .0,
       omega (arith, t .loop-test .taken),
-      tag-more (a .family) (a .codes .now) (a .grid) (a .print) (a .frame) (l .before .before .before .before .fill .last .0) n (l .loop .plane) (d .draw-tag .last .0) (below t) (l .loop .inv .2)
+      tag-more (a .family) (a .codes .now) (a .grid) (a .print) (a .frame) (l .before .before .before .fill .last .0) n (l .loop .plane) (d .draw-tag .last .0) (below t) (l .loop .inv .2)
           (d .draw-tag .ensures ∙ ap (λ (p : Print). drawn (a .frame) e b (getD (a .codes .now) n 0) p (l .loop .plane)) tag),
       q .put-quad .ensures
-          ∙ ap (λ (x : Quad). sets (l .loop .quads) (quadSize * n) (numbersOf x)) (q .before .print-quad .ensures ∙ ap (printQuad e b) tag)
+          ∙ ap (λ (x : Quad). sets (l .loop .quads) (quadSize * n) (numbersOf x)) (q .before .before .print-quad .ensures ∙ ap (printQuad e b) tag)
           ∙ quad-more (a .family) (a .grid) (a .print) (a .quads .now) n (l .loop .quads) (roomy t) (l .loop .inv .3),
       q .put-quad .kept .0 ∙ l .loop .inv .4,
     )
@@ -133,7 +133,7 @@ returns : tie.Need-returns Inv-loop μ-loop
 returns c =
     let l = c .before in
     let a = start l .args in
-    let f = l .before .before .before .before in
+    let f = l .before .before .before in
     let e : l .loop .position ≡ tagCount (a .grid) = omega (arith, l .loop .inv .0, l .loop .inv .1, c .loop-test .left) in (
       sheet-drawn (a .family) (a .codes .now) (a .grid) (a .print) (a .frame) (a .plane .now) (f .fill .last .0) (l .loop .plane) (f .fill .ensures)
           (l .loop .inv .2 ∙ ap (λ (n : ℕ). repainted (a .frame) (firstTags (a .family) (a .codes .now) (a .grid) (a .print) n) (f .fill .last .0)) e),
@@ -146,16 +146,16 @@ paint-sheet-spec =
     (tie.spec
     Inv-loop
     μ-loop
-    fill-requires
     tag-count-requires
+    fill-requires
     loop-holds
     print-of-requires
-    (λ c. omega (arith, below (c .before .before), room (start (c .before .before .before) .pre)))  -- mul-draw-tag
+    (λ c. omega (arith, below (c .before .before), tags-le (start (c .before .before .before) .pre)))  -- mul-draw-tag
     shared-slice-read-draw-tag
     draw-tag-requires
     print-quad-requires
     put-quad-requires
-    (λ c. omega (arith, turn c .loop-test .taken))  -- add-position
+    (λ c. omega (arith, below (turn c), tags-le (start (turn c .before) .pre)))  -- add-position
     (λ c. omega (arith, turn c .loop-test .taken))  -- loop-less
     loop-again
     (λ c. long (c .before))  -- same-length
