@@ -50,7 +50,9 @@
  *       does not end at least one pixel before the right and lower edges
  *   15  no levels, or more than 64; for a centre, a sum or count of 2^24 or more, or a count of 0
  *   16  quad list not a multiple of 8 numbers or above 1,024 quads, or an output shorter than four numbers and eight corner
- *       numbers a quad
+ *       numbers a quad; for a sheet, an output shorter than eight numbers a tag
+ *   17  a sheet's side of 0 or above 32 tags, a gap outside 1..16 cells, more tags than codes, or a grid that does not end at
+ *       least one pixel before the right and lower edges
  */
 #ifndef MUOSLEAP_H
 #define MUOSLEAP_H
@@ -151,6 +153,29 @@ uint32_t muosleap_paint_tag(uint8_t *plane, size_t plane_count, size_t width, si
 uint32_t muosleap_paint_tag_in(uint8_t *plane, size_t plane_count, size_t width, size_t height, size_t pitch, uint8_t family,
                                uint64_t word, size_t x, size_t y, size_t cell, uint8_t turn, uint8_t light, uint8_t dark,
                                float quad[8]);
+
+/*
+ * Fills an 8-bit plane with light and draws a sheet into it: a grid of a lent table's codes, `rows` × `columns` tags, each drawn as
+ * muosleap_paint_tag draws it, all at one turn. The grid's upper left pixel is (x, y); between two tags are `gap` cells of light, so
+ * that the next tag begins (edge + 2 × border + gap) × cell pixels further. The lower left tag is position 0 and shows the first code;
+ * positions rise along a row and then upward. With a table that passes the likeness check, which is not tested here, each tag is read
+ * under its position.
+ * Refusals: 1, 6, 14 (cell, turn, light and dark), 17, 16.
+ * plane: the picture; its filler stays as it was. quads: eight numbers a tag in the order of the positions, each tag's outer corners
+ * as muosleap_paint_tag gives them. Numbers beyond these stay as they were.
+ */
+uint32_t muosleap_paint_sheet(uint8_t *plane, size_t plane_count, size_t width, size_t height, size_t pitch, uint8_t edge,
+                              uint8_t border, uint8_t hamming_distance, const uint64_t *codes, size_t codes_count, size_t rows,
+                              size_t columns, size_t gap, size_t x, size_t y, size_t cell, uint8_t turn, uint8_t light,
+                              uint8_t dark, float *quads, size_t quads_count);
+
+/*
+ * The same with the table of a family.
+ * Refusals: 1, 6 (no such family), 14, 17, 16.
+ */
+uint32_t muosleap_paint_sheet_in(uint8_t *plane, size_t plane_count, size_t width, size_t height, size_t pitch, uint8_t family,
+                                 size_t rows, size_t columns, size_t gap, size_t x, size_t y, size_t cell, uint8_t turn,
+                                 uint8_t light, uint8_t dark, float *quads, size_t quads_count);
 
 /*
  * A blur by lent weights, across into `temp` and then down into `out`, edges repeated.

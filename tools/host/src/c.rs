@@ -90,6 +90,18 @@ crossing! {
         turn: u8, light: u8, dark: u8, quad: &mut [f32; 8]
     );
 
+    /// Fills the plane with light and paints a grid of a lent table's codes; filler stays as it was. Refusals 1, 6, 14, 17, 16.
+    fn paint_sheet(
+        plane: &mut [u8], width: usize, height: usize, pitch: usize, edge: u8, border: u8, hamming_distance: u8, codes: &[u64],
+        rows: usize, columns: usize, gap: usize, x: usize, y: usize, cell: usize, turn: u8, light: u8, dark: u8, quads: &mut [f32]
+    );
+
+    /// The same by family number. Refusals 1, 6, 14, 17, 16.
+    fn paint_sheet_in(
+        plane: &mut [u8], width: usize, height: usize, pitch: usize, family: u8, rows: usize, columns: usize, gap: usize, x: usize,
+        y: usize, cell: usize, turn: u8, light: u8, dark: u8, quads: &mut [f32]
+    );
+
     /// Blurs `img` across into `temp`, and `temp` down into `out`. Refusals 1, 2, 3.
     fn gaussian_blur_f32(img: &[f32], width: usize, height: usize, weights: &[f32], temp: &mut [f32], out: &mut [f32]);
 

@@ -100,12 +100,16 @@ refusals! {
         "lend 1 to 64 levels; leave such a cluster out";
     16 ListLength:
         "quad list not a multiple of 8 numbers or above 1,024 quads, or an output shorter than four numbers and eight corner \
-         numbers a quad",
+         numbers a quad; for a sheet, an output shorter than eight numbers a tag",
         "lend whole quads in lists of at most 1,024, and outputs that are long enough";
+    17 Sheet:
+        "a sheet's side of 0 or above 32 tags, a gap outside 1..16 cells, more tags than codes, or a grid that does not end at \
+         least one pixel before the right and lower edges",
+        "mend the grid: other sides or gap, a longer table, smaller cells, or a larger plane";
 }
 
 impl Refusal {
-    /// The number that document 01 and the C interface give it.
+    /// The number that documents 01 and 02 and the C interface give it.
     pub const fn number(self) -> u32 {
         self as u32
     }

@@ -3,7 +3,7 @@
 use muosleap::detector::{bit_code, rotate_bits};
 use muosleap::image_util::{Saddles, gaussian_blur_f32, hessian_response, init_saddle_clusters, kernel, response_threshold};
 use muosleap::painter::paint_tag;
-use muosleap::{Cluster, FAMILIES, Family, Picture, Print, Quad, REFUSALS, Refusal, Shape, Table};
+use muosleap::{Cluster, FAMILIES, Family, Picture, Print, Quad, REFUSALS, Refusal, Shape, Table, c};
 
 const PRINT: Print = Print { x: 1, y: 1, cell: 2, turn: 0, light: 200, dark: 20 };
 
@@ -53,6 +53,8 @@ fn every_refusal_is_met() {
         paint_tag(&mut Picture::packed([0; 400], 20, 20), 4, 2, 0x231B, &Print { cell: 3, ..PRINT }).map(|_| ()),
         bit_code(&[], 10, 3).map(|_| ()),
         Family::T16H5.try_decode_quads(&picture(&plane), &vec![tag; 1_025]).map(|_| ()),
+        // A gap of 0 cells.
+        Err(Refusal::try_from(c::paint_sheet_in(&mut [0; 400], 20, 20, 20, 0, 1, 1, 0, 1, 1, 2, 0, 200, 20, &mut [])).unwrap()),
     ];
     let all: Vec<_> = REFUSALS.iter().map(|&refusal| Err(refusal)).collect();
     assert_eq!(met[..], all);
