@@ -33,6 +33,13 @@ pub struct Table<'a> {
     pub codes: &'a [u64],
 }
 
+impl Table<'_> {
+    /// Modules along one side of a tag, its border included.
+    pub const fn side(&self) -> usize {
+        self.edge as usize + 2 * self.border as usize
+    }
+}
+
 /// A built-in family of tags.
 #[derive(Clone, Copy, PartialEq, Eq, Hash, Debug)]
 #[repr(u8)]

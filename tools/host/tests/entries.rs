@@ -3,9 +3,10 @@
 use muosleap::detector::{bit_code, rotate_bits};
 use muosleap::image_util::{Saddles, gaussian_blur_f32, hessian_response, init_saddle_clusters, kernel, response_threshold};
 use muosleap::painter::paint_tag;
-use muosleap::{Cluster, FAMILIES, Family, Picture, Print, Quad, REFUSALS, Refusal, Shape, Table, c};
+use muosleap::{Cluster, FAMILIES, Family, Grid, Picture, Print, Quad, REFUSALS, Refusal, Shape, Table};
 
 const PRINT: Print = Print { x: 1, y: 1, cell: 2, turn: 0, light: 200, dark: 20 };
+const GRID: Grid = Grid { rows: 1, columns: 1, gap: 1 };
 
 /// A picture of 20 × 20 pixels.
 fn picture(bytes: &[u8]) -> Picture<&[u8]> {
@@ -53,8 +54,7 @@ fn every_refusal_is_met() {
         paint_tag(&mut Picture::packed([0; 400], 20, 20), 4, 2, 0x231B, &Print { cell: 3, ..PRINT }).map(|_| ()),
         bit_code(&[], 10, 3).map(|_| ()),
         Family::T16H5.try_decode_quads(&picture(&plane), &vec![tag; 1_025]).map(|_| ()),
-        // A gap of 0 cells.
-        Err(Refusal::try_from(c::paint_sheet_in(&mut [0; 400], 20, 20, 20, 0, 1, 1, 0, 1, 1, 2, 0, 200, 20, &mut [])).unwrap()),
+        Family::T16H5.paint_sheet(&mut Picture::packed([0; 400], 20, 20), &Grid { gap: 0, ..GRID }, &PRINT).map(|_| ()),
     ];
     let all: Vec<_> = REFUSALS.iter().map(|&refusal| Err(refusal)).collect();
     assert_eq!(met[..], all);
@@ -75,7 +75,7 @@ fn refusals_have_numbers_and_texts_of_their_own() {
 fn families_are_their_tables() {
     for family in FAMILIES {
         let table = family.table();
-        let side = 2 * (table.edge + 2 * table.border) as usize + 3;
+        let side = 2 * table.side() + 3;
         let mut picture = Picture::packed(vec![0; side * side], side, side);
         let mut again = picture.clone();
         // As many misprinted modules as are read.
@@ -90,6 +90,19 @@ fn families_are_their_tables() {
             assert_eq!(table.try_decode_quad(&picture, &quad.started(start)), Ok(tag));
         }
         assert_eq!(table.check_likeness(), Ok(()));
+    }
+}
+
+#[test]
+fn a_sheet_of_one_tag_is_that_tag() {
+    for family in FAMILIES {
+        let (table, side) = (family.table(), 2 * family.table().side() + 2);
+        let mut tag = Picture::packed(vec![0; side * side], side, side);
+        let quad = family.paint_tag(&mut tag, table.codes[0], &PRINT).unwrap();
+        let [mut sheet, mut lent] = [vec![1; side * side], vec![2; side * side]].map(|bytes| Picture::packed(bytes, side, side));
+        assert_eq!(family.paint_sheet(&mut sheet, &GRID, &PRINT), Ok(vec![quad]));
+        assert_eq!(table.paint_sheet(&mut lent, &GRID, &PRINT), Ok(vec![quad]));
+        assert_eq!((&sheet.bytes, &lent.bytes), (&tag.bytes, &tag.bytes));
     }
 }
 
