@@ -7,7 +7,7 @@
 //! - [`Picture`]: an 8-bit picture, with or without filler behind its lines.
 //! - [`detector`]: words, levels and quads, by [`Family`] or by a [`Table`] of your own; and how a tag's [wear](detector#wear) shows.
 //! - [`image_util`]: blur, response, threshold, clusters and their centres.
-//! - [`painter`]: paints a tag, or a sheet of tags. [`sheet`]: a sheet with squares between its tags, in Rust over the painter.
+//! - [`painter`]: paints a tag, or a sheet of tags. [`sheet`]: the squares that an aprilgrid board has beside its tags.
 //! - [`c`]: the C interface as it crosses, for hosts that keep their own buffers.
 //!
 //! ```

@@ -1,11 +1,11 @@
-//! Padded lines. Refusal 1 at the limits of sides, pitch and length, for all six functions that take an 8-bit plane; and
-//! whatever the filler holds, a plane reads and paints as its lines without filler do, and its filler stays.
+//! Padded lines. Refusal 1 at the limits of sides, pitch and length, for all eight functions that take an 8-bit plane; and
+//! whatever the filler holds, a plane reads and paints as its lines without filler do, and its filler stays (of sheets see sheets.rs).
 
 mod numbers;
 
 use muosleap::image_util::{Saddles, kernel, to_unit};
-use muosleap::sheet::Sheet;
-use muosleap::{FAMILIES, Family, Picture, Print, Quad, Refusal, Shape, Table, c};
+use muosleap::sheet::corner_squares;
+use muosleap::{FAMILIES, Family, Grid, Picture, Print, Quad, Refusal, Shape, Table, c};
 use numbers::Numbers;
 use std::collections::BTreeSet;
 
@@ -33,9 +33,9 @@ impl Given {
         (plane, quad.into())
     }
 
-    /// What the six functions answer to a quad, the first `numbers` of its numbers as a list, and a print of this turn. All of
+    /// What the eight functions answer to a quad, the first `numbers` of its numbers as a list, and a print of this turn. All of
     /// these calls are to be refused, and none to change anything that it was lent.
-    fn answers(self, plane: &[u8], quad: &[f32; 8], numbers: usize, print: u8) -> [u32; 6] {
+    fn answers(self, plane: &[u8], quad: &[f32; 8], numbers: usize, print: u8) -> [u32; 8] {
         let Given(_, width, height, pitch) = self;
         let (mut lent, list) = (plane.to_vec(), &quad[..numbers]);
         let (mut id, mut turn, mut differing, mut eight) = (77, 88, 66, [0.5; 8]);
@@ -48,6 +48,8 @@ impl Given {
             c::try_decode_quads_in(plane, width, height, pitch, 0, list, &mut rows, &mut corners),
             c::paint_tag(&mut lent, width, height, pitch, 4, 2, 0x231B, 0, 0, 1, print, 210, 20, &mut eight),
             c::paint_tag_in(&mut lent, width, height, pitch, 0, 0x231B, 0, 0, 1, print, 210, 20, &mut eight),
+            c::paint_sheet(&mut lent, width, height, pitch, 4, 2, 1, codes, 1, 1, 1, 0, 0, 1, print, 210, 20, &mut corners),
+            c::paint_sheet_in(&mut lent, width, height, pitch, 0, 1, 1, 1, 0, 0, 1, print, 210, 20, &mut corners),
         ];
         assert!(lent == plane, "{self:?}: a refused call painted");
         assert_eq!((id, turn, differing, eight), (77, 88, 66, [0.5; 8]), "{self:?}");
@@ -58,13 +60,13 @@ impl Given {
     /// The calls are good but for the plane's description.
     fn is_refused(self) {
         let (plane, quad) = self.plane();
-        assert_eq!(self.answers(&plane, &quad, 8, 0), [1; 6], "{self:?}");
+        assert_eq!(self.answers(&plane, &quad, 8, 0), [1; 8], "{self:?}");
     }
 
     /// The calls are refused for what comes after 1: a quad outside, a list of seven numbers, a turn of 4.
     fn is_let_through(self) {
         let (plane, _) = self.plane();
-        assert_eq!(self.answers(&plane, &[5_000.0; 8], 7, 4), [9, 9, 16, 16, 14, 14], "{self:?}");
+        assert_eq!(self.answers(&plane, &[5_000.0; 8], 7, 4), [9, 9, 16, 16, 14, 14, 14, 14], "{self:?}");
     }
 }
 
@@ -144,7 +146,7 @@ fn large_numbers_are_refused() {
 #[test]
 fn the_crate_takes_any_number() {
     let quad = Quad::from([0.0; 8]);
-    let sheet = Sheet { x: 0, y: 0, columns: 2, rows: 2, cell: 1, gap: 1, light: 200, dark: 20 };
+    let grid = Grid { rows: usize::MAX, columns: usize::MAX, gap: usize::MAX };
     for (width, height) in [(usize::MAX, 2), (2, usize::MAX), (usize::MAX, usize::MAX), (0, 0), (1 << 32, 1 << 32)] {
         for stride in [0, 1, 20, 8_192, usize::MAX] {
             let mut picture = Picture { bytes: vec![7; 400], width, height, stride };
@@ -152,40 +154,15 @@ fn the_crate_takes_any_number() {
             assert_eq!(Family::T16H5.table().try_decode_quads(&picture, &[quad]), Err(Refusal::PlaneSize));
             let print = Print { x: usize::MAX, y: usize::MAX, cell: usize::MAX, turn: 0, light: 200, dark: 20 };
             assert_eq!(Family::T16H5.paint_tag(&mut picture, 0x231B, &print), Err(Refusal::PlaneSize));
-            assert_eq!(sheet.paint(Family::T16H5, &[0x231B], &mut picture), Err(Refusal::PlaneSize));
+            assert_eq!(Family::T16H5.paint_sheet(&mut picture, &grid, &print), Err(Refusal::PlaneSize));
+            assert_eq!(Family::T16H5.table().paint_sheet(&mut picture, &grid, &print), Err(Refusal::PlaneSize));
+            corner_squares(&mut picture, &[quad, Quad::from([f32::MAX; 8]), Quad::from([f32::NAN; 8])], usize::MAX, 7);
             assert_eq!(picture.bytes, [7; 400]);
             assert!(to_unit(&picture).len() <= 400 && picture.lines().len() <= 400);
         }
         let mut saddles = Saddles::new(Shape { width, height });
         assert!(matches!(saddles.find(&[0.5; 400], &kernel(1.5)).err(), Some(Refusal::PlaneSize)));
     }
-}
-
-#[test]
-fn a_sheet_takes_any_number() {
-    let small = Sheet { x: 1, y: 1, columns: 2, rows: 2, cell: 1, gap: 1, light: 200, dark: 20 };
-    let mut picture = Picture { bytes: Numbers(9).bytes(33 * 29 + 30), width: 30, height: 30, stride: 33 };
-    let before = picture.clone();
-    for large in [31, 4_096, 1 << 32, 1 << 63, usize::MAX - 1, usize::MAX] {
-        for sheet in [
-            Sheet { x: large, ..small },
-            Sheet { y: large, ..small },
-            Sheet { columns: large, ..small },
-            Sheet { rows: large, ..small },
-            Sheet { cell: large, ..small },
-            Sheet { gap: large, ..small },
-            Sheet { columns: large, rows: large, cell: 0, ..small },
-            Sheet { columns: large, rows: large, cell: large, gap: large, ..small },
-        ] {
-            assert_eq!(sheet.paint(Family::T16H5, Family::T16H5.codes(), &mut picture), Err(Refusal::Painting), "{sheet:?}");
-        }
-        let none = Sheet { columns: 0, rows: 0, gap: 0, cell: large, ..small };
-        assert_eq!(none.paint(Family::T16H5, Family::T16H5.codes(), &mut picture), Ok(vec![]));
-    }
-    for (sheet, words) in [(Sheet { light: 69, ..small }, [0x231B; 4]), (small, [0, 0, 0, 0x1_0000])] {
-        assert_eq!(sheet.paint(Family::T16H5, &words, &mut picture), Err(Refusal::Painting));
-    }
-    assert_eq!(picture.bytes, before.bytes);
 }
 
 /// Pitches of planes of this width.
@@ -376,31 +353,6 @@ fn padded_pictures_are_painted_as_packed_ones() {
                 let expected: Vec<u8> = padded_before.bytes.iter().enumerate().map(expected).collect();
                 assert!(padded.bytes == expected, "{family:?}, {print:?}, pitch {stride}");
             }
-        }
-    }
-}
-
-#[test]
-fn a_padded_sheet_is_painted_as_a_packed_one() {
-    let family = Family::T25H7;
-    let sheet = Sheet { x: 3, y: 2, columns: 3, rows: 2, cell: 2, gap: 2, light: 210, dark: 30 };
-    let Shape { width, height } = sheet.shape(family);
-    let (width, height) = (width + 3, height + 2);
-    let before = Picture::packed(Numbers(3).bytes(width * height), width, height);
-    let mut packed = before.clone();
-    let quads = sheet.paint(family, family.codes(), &mut packed).unwrap();
-    assert_eq!(quads.len(), 6);
-    for stride in pitches(width) {
-        for (painted, padded_before) in padded(&packed, stride).iter().zip(padded(&before, stride)) {
-            let mut padded = padded_before.clone();
-            assert_eq!(sheet.paint(family, family.codes(), &mut padded), Ok(quads.clone()));
-            assert!(padded.lines().eq(painted.lines()));
-            let filler = |picture: &Picture<Vec<u8>>| -> Vec<u8> {
-                picture.bytes.chunks(stride).flat_map(|line| line[width..].to_vec()).collect()
-            };
-            assert_eq!(filler(&padded), filler(&padded_before));
-            let ids = family.try_decode_quads(&padded, &quads).unwrap().into_iter().map(|row| row.unwrap().id);
-            assert!(ids.eq(0..6));
         }
     }
 }

@@ -113,6 +113,7 @@ pub fn main() {
         frames(&mut calls);
         lists(&mut calls);
         painter(&mut calls);
+        sheets(&mut calls);
         blur(&mut calls);
         response(&mut calls);
         clusters(&mut calls);
@@ -226,7 +227,7 @@ fn bad_frames(pitch: usize) -> Vec<[usize; 3]> {
     [&large[..], &wrong, &other].concat()
 }
 
-/// Refusal 1 of all six functions that take an 8-bit plane.
+/// Refusal 1 of all eight functions that take an 8-bit plane.
 fn frames(calls: &mut Calls) {
     let (pitch, quads) = (calls.pitch(), calls.floats(16));
     let quad = &quads[..8].try_into().unwrap();
@@ -251,6 +252,13 @@ fn frames(calls: &mut Calls) {
         });
         calls.refuse("paint_tag", 1, painting, |(plane, quad)| {
             c::paint_tag(plane, w, h, p, 4, 2, 0x231B, 1, 1, 2, 0, 200, 50, quad)
+        });
+        let sheet = (calls.padded(&[90; 400], pitch), calls.floats(9));
+        calls.refuse("paint_sheet_in", 1, sheet.clone(), |(plane, quads)| {
+            c::paint_sheet_in(plane, w, h, p, 0, 1, 1, 1, 1, 1, 2, 0, 200, 50, quads)
+        });
+        calls.refuse("paint_sheet", 1, sheet, |(plane, quads)| {
+            c::paint_sheet(plane, w, h, p, 4, 2, 1, &[0x231B], 1, 1, 1, 1, 1, 2, 0, 200, 50, quads)
         });
     }
 }
@@ -318,6 +326,56 @@ fn painter(calls: &mut Calls) {
     let all = lent(calls);
     calls.refuse("paint_tag_in", 6, all, |(plane, quad)| {
         c::paint_tag_in(plane, 20, 20, pitch, 5, word, x, y, cell, turn, light, dark, quad)
+    });
+}
+
+/// What a sheet of four tags of eight modules takes in a plane of 20 × 20 pixels: rows, columns, gap, x, y, cell; turn, light, dark;
+/// numbers in the output. Each row has one thing wrong.
+fn bad_sheets() -> Vec<(u32, [usize; 6], [u8; 3], usize)> {
+    let (fits, shades) = ([2, 2, 2, 1, 1, 1], [0, 200, 50]);
+    let with = |place: usize, number: usize| {
+        let mut sheet = fits;
+        sheet[place] = number;
+        sheet
+    };
+    let mut bad = vec![(14, fits, [4, 200, 50], 32), (14, fits, [0, 99, 50], 32), (14, fits, [0, 10, 250], 32)];
+    bad.extend([0, 65, usize::MAX].map(|cell| (14, with(5, cell), shades, 32)));
+    for (place, numbers) in [(0, [0, 3, 33]), (1, [0, 3, 33]), (2, [0, 4, 17]), (3, [2, 20, 1 << 63]), (4, [2, 20, 1 << 63])] {
+        bad.extend(numbers.map(|number| (17, with(place, number), shades, 32)));
+        bad.extend([1, 17, 18].map(|less| (17, with(place, usize::MAX - less + 1), shades, 32)));
+    }
+    bad.extend([0, 1, 8, 24, 31].map(|numbers| (16, fits, shades, numbers)));
+    bad
+}
+
+fn sheets(calls: &mut Calls) {
+    let (codes, pitch) = (Family::T16H5.codes(), calls.pitch());
+    for (number, [rows, columns, gap, x, y, cell], [turn, light, dark], numbers) in bad_sheets() {
+        let all = (calls.bytes(pitch * 19 + 20), calls.floats(numbers));
+        calls.refuse("paint_sheet", number, all.clone(), |(plane, quads)| {
+            c::paint_sheet(plane, 20, 20, pitch, 4, 2, 1, codes, rows, columns, gap, x, y, cell, turn, light, dark, quads)
+        });
+        calls.refuse("paint_sheet_in", number, all, |(plane, quads)| {
+            c::paint_sheet_in(plane, 20, 20, pitch, 0, rows, columns, gap, x, y, cell, turn, light, dark, quads)
+        });
+    }
+    for (edge, border, distance, codes) in [
+        (0, 2, 1, codes),
+        (9, 2, 1, codes),
+        (4, 0, 1, codes),
+        (4, 5, 1, codes),
+        (4, 2, 0, codes),
+        (4, 2, 65, codes),
+        (4, 2, 1, &[]),
+    ] {
+        let all = (calls.bytes(pitch * 19 + 20), calls.floats(32));
+        calls.refuse("paint_sheet", 6, all, |(plane, quads)| {
+            c::paint_sheet(plane, 20, 20, pitch, edge, border, distance, codes, 2, 2, 2, 1, 1, 1, 0, 200, 50, quads)
+        });
+    }
+    let all = (calls.bytes(pitch * 19 + 20), calls.floats(32));
+    calls.refuse("paint_sheet_in", 6, all, |(plane, quads)| {
+        c::paint_sheet_in(plane, 20, 20, pitch, 5, 2, 2, 2, 1, 1, 1, 0, 200, 50, quads)
     });
 }
 

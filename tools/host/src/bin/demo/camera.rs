@@ -1,9 +1,9 @@
-//! The picture: a sheet of tags on a table, under a lamp, with a camera's noise.
+//! The picture: a sheet of tags on a desk, under a lamp, with a camera's noise.
 
 use crate::options::Options;
 use crate::{FAMILY, SIDE};
-use muosleap::sheet::Sheet;
-use muosleap::{Picture, Point, Quad, Refusal};
+use muosleap::sheet::corner_squares;
+use muosleap::{Grid, Picture, Point, Print, Quad, Refusal, Shape, Table};
 use std::ops::RangeInclusive;
 
 /// Tags with misprinted modules, and which. The family's match threshold is 3, so up to two are read, and told.
@@ -21,9 +21,12 @@ const HEIGHT: usize = 1080;
 /// How many bytes a line may take, with its filler.
 pub const PITCHES: RangeInclusive<usize> = WIDTH..=8_192;
 
-const SHEET: Sheet = Sheet { x: 474, y: 54, columns: SIDE, rows: SIDE, cell: 12, gap: 3, light: 225, dark: 35 };
-const TABLE: u8 = 95;
-const MARGIN: usize = 28;
+const GRID: Grid = Grid { rows: SIDE, columns: SIDE, gap: 3 };
+const PRINT: Print = Print { x: 510, y: 90, cell: 12, turn: 0, light: 225, dark: 35 };
+
+/// Pixels of paper around the grid, and the shade of the desk on which it lies.
+const MARGIN: usize = 64;
+const DESK: u8 = 95;
 
 /// A picture, and where its tags are.
 pub struct Camera {
@@ -37,14 +40,12 @@ impl Camera {
     pub fn photograph(options: &Options) -> Result<Camera, Refusal> {
         let mut words = FAMILY.codes()[..SIDE * SIDE].to_vec();
         MISPRINTED.iter().for_each(|&(id, modules)| words[id] ^= modules);
-        let mut picture = Picture::packed(vec![TABLE; WIDTH * HEIGHT], WIDTH, HEIGHT);
-        let paper = SHEET.shape(FAMILY);
-        for y in SHEET.y - MARGIN..SHEET.y + paper.height + MARGIN {
-            let row = y * WIDTH + SHEET.x;
-            picture.bytes[row - MARGIN..row + paper.width + MARGIN].fill(SHEET.light);
-        }
-        let quads = SHEET.paint(FAMILY, &words, &mut picture)?;
+        let printed = Table { codes: &words, ..FAMILY.table() };
+        let mut picture = Picture::packed(vec![0; WIDTH * HEIGHT], WIDTH, HEIGHT);
+        let quads = printed.paint_sheet(&mut picture, &GRID, &PRINT)?;
+        corner_squares(&mut picture, &quads, GRID.gap * PRINT.cell, PRINT.dark);
         let mut camera = Camera { picture, quads };
+        camera.lay_on_desk();
         if let Some(tag) = options.smear {
             camera.smear(camera.quads[tag]);
         }
@@ -53,6 +54,18 @@ impl Camera {
             camera.pad(pitch);
         }
         Ok(camera)
+    }
+
+    /// The painter makes all of the picture paper: what lies outside the sheet's margin becomes desk.
+    fn lay_on_desk(&mut self) {
+        let Shape { width, height } = GRID.shape(&FAMILY.table(), PRINT.cell);
+        let columns = PRINT.x - MARGIN..PRINT.x + width + MARGIN;
+        let rows = PRINT.y - MARGIN..PRINT.y + height + MARGIN;
+        for (place, pixel) in self.picture.bytes.iter_mut().enumerate() {
+            if !columns.contains(&(place % WIDTH)) || !rows.contains(&(place / WIDTH)) {
+                *pixel = DESK;
+            }
+        }
     }
 
     /// How many bytes of the picture are filler.
