@@ -8,6 +8,7 @@
 //! - [`detector`]: words, levels and quads, by [`Family`] or by a [`Table`] of your own; and how a tag's [wear](detector#wear) shows.
 //! - [`image_util`]: blur, response, threshold, clusters and their centres.
 //! - [`painter`]: paints a tag, or a sheet of tags. [`sheet`]: the squares that an aprilgrid board has beside its tags.
+//! - [`files`]: pictures as PGM and PNG.
 //! - [`c`]: the C interface as it crosses, for hosts that keep their own buffers.
 //!
 //! ```
@@ -31,6 +32,7 @@
 #[allow(unsafe_code)]
 pub mod c;
 pub mod detector;
+pub mod files;
 pub mod image_util;
 pub mod painter;
 mod picture;

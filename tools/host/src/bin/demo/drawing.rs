@@ -1,7 +1,7 @@
 //! The picture with what was found drawn in: samples of clusters, each tag's outline, corners and number.
 
 use crate::camera::Camera;
-use crate::png;
+use muosleap::files::{pgm, png};
 use muosleap::image_util::Saddles;
 use muosleap::{Point, Quad, Refusal, Shape, Tag};
 use std::path::Path;
@@ -108,19 +108,15 @@ impl Drawing {
         let Shape { width, height } = self.shape;
         let grey = |&[r, g, b]: &Colour| ((r as u32 * 3 + g as u32 * 6 + b as u32) / 10) as u8;
         let marked: Vec<u8> = self.pixels.iter().map(grey).collect();
-        let pgm = |pixels: &[u8]| [format!("P5\n{width} {height}\n255\n").as_bytes(), pixels].concat();
+        let seen = camera.picture.lines().collect::<Vec<_>>().concat();
         fs::create_dir_all(folder)?;
         println!();
         for (name, bytes, what) in [
-            (
-                "sheet.pgm",
-                pgm(&camera.picture.lines().collect::<Vec<_>>().concat()),
-                "the picture as the camera gives it, without filler",
-            ),
-            ("marked.pgm", pgm(&marked), "the picture with clusters and corners drawn in"),
+            ("sheet.pgm", pgm(width, height, &seen), "the picture as the camera gives it, without filler"),
+            ("marked.pgm", pgm(width, height, &marked), "the picture with clusters and corners drawn in"),
             (
                 "marked.png",
-                png::file(width, height, &self.pixels),
+                png(width, height, &self.pixels, None),
                 "the same in colour: clusters orange, each tag's corners green, the first of them red",
             ),
         ] {

@@ -3,8 +3,9 @@
 
 mod camera;
 mod drawing;
+#[path = "../shared/number.rs"]
+mod number;
 mod options;
-mod png;
 
 use camera::Camera;
 use muosleap::image_util::{Saddles, kernel, to_unit};

@@ -2,8 +2,8 @@
 
 use crate::SIDE;
 use crate::camera::PITCHES;
+use crate::number::number;
 use std::ffi::OsString;
-use std::ops::RangeInclusive;
 use std::path::PathBuf;
 
 pub const USAGE: &str = "usage: demo [FOLDER] [--noise LEVELS] [--smear TAG] [--pitch BYTES]";
@@ -41,12 +41,4 @@ impl Options {
         let folder = folder.or_else(|| std::env::var_os("DEMO_FOLDER")).unwrap_or_else(|| "target/demo".into());
         Ok(Options { folder: folder.into(), noise: noise.unwrap_or(6), smear, pitch })
     }
-}
-
-/// The number after an option, one of those that it takes.
-fn number(option: &str, word: Option<OsString>, taken: RangeInclusive<usize>) -> Result<usize, String> {
-    let asked = format!("{option} takes a number from {} to {}", taken.start(), taken.end());
-    let word = word.ok_or_else(|| asked.clone())?;
-    let number = word.to_str().and_then(|word| word.parse().ok()).filter(|number| taken.contains(number));
-    number.ok_or_else(|| format!("{asked}, not {}", word.to_string_lossy()))
 }
