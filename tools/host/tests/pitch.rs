@@ -1,5 +1,5 @@
 //! Padded lines. Refusal 1 at the limits of sides, pitch and length, for all eight functions that take an 8-bit plane; and
-//! whatever the filler holds, a plane reads and paints as its lines without filler do, and its filler stays (of sheets see sheets.rs).
+//! whatever the filler holds, a plane reads and paints as its lines without filler do, and its filler stays. (Of sheets: tests/sheets.)
 
 mod numbers;
 
