@@ -1,4 +1,5 @@
-/* Paints a tag, reads it from all four starts, and finds the saddle points of a small picture, with the C interface of Muosleap.
+/* Paints a tag, reads it from all four starts, paints and reads a sheet, and finds the saddle points of a small picture, with the
+   C interface of Muosleap.
 
    Every buffer is initialized before it is lent, outputs too, as the header asks. From the root of the repository, after
    `rt staticlib muosleap_c`:
@@ -11,7 +12,7 @@
 
 #include "muosleap.h"
 
-enum { T36H11 = 3, WIDTH = 160, HEIGHT = 120, PITCH = 192, SIDE = 32 };
+enum { T36H11 = 3, WIDTH = 160, HEIGHT = 120, PITCH = 192, SIDE = 32, ROWS = 2, COLUMNS = 3, TAGS = ROWS * COLUMNS };
 
 /* Ends the program where a call is refused. A refused call has written nothing. */
 static void accepted(const char *call, uint32_t refusal)
@@ -44,6 +45,24 @@ static void read_painted_tag(void)
     }
 }
 
+/* Paints a sheet of two rows of three tags, 4 pixels a module and a gap of 2 modules between tags, and reads its quads as one list.
+   Tag 0 is lower left; numbers rise along a row and then upward. */
+static void read_painted_sheet(void)
+{
+    static uint8_t picture[PITCH * (HEIGHT - 1) + WIDTH];
+    float quads[8 * TAGS] = {0}, corners[8 * TAGS] = {0};
+    uint64_t rows[4 * TAGS] = {0};
+
+    accepted("sheet", muosleap_paint_sheet_in(picture, sizeof picture, WIDTH, HEIGHT, PITCH, T36H11, ROWS, COLUMNS, /* gap */ 2,
+                                              /* place */ 10, 10, /* cell */ 4, /* turn */ 0, /* light, dark */ 220, 30, quads,
+                                              8 * TAGS));
+    accepted("list", muosleap_try_decode_quads_in(picture, sizeof picture, WIDTH, HEIGHT, PITCH, T36H11, quads, 8 * TAGS, rows,
+                                                  4 * TAGS, corners, 8 * TAGS));
+    for (int k = 0; k < TAGS; k++)
+        printf("quad %d of the sheet: refusal %u, tag %u, upper left (%.1f, %.1f)\n", k, (unsigned)rows[4 * k],
+               (unsigned)rows[4 * k + 1], quads[8 * k], quads[8 * k + 1]);
+}
+
 /* Four squares that meet in one point: picture to clusters. */
 static void find_saddle_point(void)
 {
@@ -71,6 +90,7 @@ static void find_saddle_point(void)
 int main(void)
 {
     read_painted_tag();
+    read_painted_sheet();
     find_saddle_point();
     return 0;
 }

@@ -8,6 +8,12 @@ start 0: tag 0, turn 0, differing modules 1, first corner of the print (39.5, 19
 start 1: tag 0, turn 3, differing modules 1, first corner of the print (39.5, 19.5)
 start 2: tag 0, turn 2, differing modules 1, first corner of the print (39.5, 19.5)
 start 3: tag 0, turn 1, differing modules 1, first corner of the print (39.5, 19.5)
+quad 0 of the sheet: refusal 0, tag 0, upper left (9.5, 57.5)
+quad 1 of the sheet: refusal 0, tag 1, upper left (57.5, 57.5)
+quad 2 of the sheet: refusal 0, tag 2, upper left (105.5, 57.5)
+quad 3 of the sheet: refusal 0, tag 3, upper left (9.5, 9.5)
+quad 4 of the sheet: refusal 0, tag 4, upper left (57.5, 9.5)
+quad 5 of the sheet: refusal 0, tag 5, upper left (105.5, 9.5)
 saddle point at (15.5, 15.5), from 12 samples
 ";
 
