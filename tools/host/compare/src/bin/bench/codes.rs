@@ -1,13 +1,13 @@
-//! Words, levels, quads, padded lines, the likeness check, the painter.
+//! Words, levels, quads, padded lines, the likeness check.
 
 use crate::measure::{Times, alone, both, timed};
+use crate::painting::{SHEETS, Tags, painted, painter, sheet_painter};
 use muosleap::detector::{bit_code, rotate_bits};
-use muosleap::{Family, Picture, Print, Quad, Refusal, Shape, Table, c};
+use muosleap::{Family, Picture, Quad, Refusal, Shape, Table, c};
 use muosleap_compare::{Numbers, SEED, pictures};
 use oracle::image::GrayImage;
 use oracle::original::detector as original;
 use std::hint::black_box;
-use std::time::Duration;
 
 const FAMILY: Family = Family::T36H11;
 
@@ -160,31 +160,6 @@ pub fn likeness() -> Vec<(String, Times)> {
     ]
 }
 
-const PRINT: Print = Print { x: 100, y: 100, cell: 20, turn: 1, light: 200, dark: 30 };
-
-/// A plane with a tag painted on it.
-fn painted(width: usize, height: usize, stride: usize) -> Picture<Vec<u8>> {
-    let mut picture = Picture { bytes: vec![1; stride * (height - 1) + width], width, height, stride };
-    FAMILY.paint_tag(&mut picture, FAMILY.codes()[0], &PRINT).unwrap();
-    picture
-}
-
-/// Paints a tag, again and again on one plane.
-fn painter(width: usize, height: usize, stride: usize) -> impl FnMut() -> Duration {
-    let mut picture = painted(width, height, stride);
-    move || timed(|| FAMILY.paint_tag(&mut picture, FAMILY.codes()[0], &PRINT).unwrap())
-}
-
-/// The painter against a plain fill of the plane.
-pub fn painting() -> Vec<(String, Times)> {
-    let paint = |(width, height): (usize, usize)| {
-        let mut plane = vec![1; width * height];
-        let fill = || timed(|| black_box(&mut plane[..]).fill(black_box(PRINT.light)));
-        (format!("`paint_tag_in`, {width} × {height}, cell 20"), both(1, fill, painter(width, height, width)))
-    };
-    [(640, 480), (1920, 1080)].map(paint).into()
-}
-
 /// Padded lines against lines without filler.
 pub fn padded() -> Vec<(String, Times)> {
     let sheet = Sheet::new();
@@ -197,9 +172,11 @@ pub fn padded() -> Vec<(String, Times)> {
     assert!(painted(width, height, width).lines().eq(painted(width, height, 2_048).lines()));
     let (mut list, mut padded_list) = (sheet.lister(packed), sheet.lister(padded));
     let (paint, paint_padded) = (painter(width, height, width), painter(width, height, 2_048));
+    let [paint_sheet, paint_padded_sheet] = [width, 2_048].map(|stride| sheet_painter(&SHEETS[0], stride, Tags::Numbered));
     vec![
         ("`try_decode_quad_in`, one quad".into(), both(144, || timed(|| sum(&packed)), || timed(|| sum(&padded)))),
         ("`try_decode_quads_in`, a list of 144 quads".into(), both(1, || timed(&mut list), || timed(&mut padded_list))),
         ("`paint_tag_in`, cell 20".into(), both(1, paint, paint_padded)),
+        ("`paint_sheet_in`, 12 × 12 tags, cell 7, gap 3".into(), both(1, paint_sheet, paint_padded_sheet)),
     ]
 }

@@ -5,6 +5,8 @@ mod codes;
 #[cfg(original)]
 mod measure;
 #[cfg(original)]
+mod painting;
+#[cfg(original)]
 mod planes;
 #[cfg(original)]
 mod report;
@@ -22,7 +24,8 @@ fn main() {
     report::table("Levels and quads", QUADS, sides, &codes::quads());
     report::table("Padded lines", PADDED, ["without filler", "pitch 2,048"], &codes::padded());
     report::table("Likeness check", LIKENESS, sides, &codes::likeness());
-    report::table("Painting", PAINTING, ["plain fill", "Muosleap"], &codes::painting());
+    report::table("Painting a tag", PAINTING, ["plain fill", "Muosleap"], &painting::tags());
+    report::table("Painting a sheet", SHEETS, ["two plain fills", "Muosleap"], &painting::sheets());
     for (width, height) in [(640, 480), (1920, 1080)] {
         let rows = planes::Planes::new(width, height).entries();
         report::table(&format!("Planes of {width} × {height}"), PLANES, sides, &rows);
@@ -56,6 +59,10 @@ const LIKENESS: &str = "The original has no such check. The tables pass it, whic
 #[cfg(original)]
 const PAINTING: &str = "The original has no painter. The left column is the least that one has to do: a plane of the same size filled with \
 light in plain Rust, `plane.fill(light)`. The last column is the part of the painter's time that this takes.";
+
+#[cfg(original)]
+const SHEETS: &str = "12 × 12 tags of T36H11 on a plane of 1920 × 1080, which cover 1,071 lines of it with a cell of 7 pixels and 1,048 with one of 8. \
+The left column is the time of filling the plane twice, in plain Rust as above. A sheet is to take at most twice as long: the last column is to be 0.50 or more.";
 
 #[cfg(original)]
 const PLANES: &str = "A sheet of tags with noise. Muosleap's buffers are lent and were written before; the original makes its planes anew in \
