@@ -10,7 +10,7 @@ use lib.Dec.{ltb, leb}
 use Rattle.lists.proofs.Bools.{and-left, and-right}
 use Rattle.lists.proofs.Grid.{next-row}
 use Rattle.painter.proofs.Runs.{Within}
-use Rattle.grid.specs.Sheet.{tagOf, inTag}
+use Rattle.grid.specs.Sheet.{lineTag, inTag}
 
 -- pixel n lies in tag c
 pub record InTag (first step size count c n : ℕ) : Type 0 where
@@ -19,16 +19,16 @@ pub record InTag (first step size count c n : ℕ) : Type 0 where
 
 module _ (first step size count n : ℕ) where
   -- the tag that the test finds
-  pub is-in-tag : inTag first step size count n ≡ true → InTag first step size count (tagOf first step n) n
+  pub is-in-tag : inTag first step size count n ≡ true → InTag first step size count (lineTag first step n) n
   is-in-tag e =
       let a = leb first n in
-      let b = ltb (tagOf first step n) count in
+      let b = ltb (lineTag first step n) count in
       let c = ltb ((n - first) % step) size in
       let from = leb-true first n (and-left a (b && c) e) in
       let rest = and-right a (b && c) e in
       let inside = ltb-true ((n - first) % step) size (and-right b c rest) in
       let parts = div-add-mod' (n - first) step in
-      record { among = ltb-true (tagOf first step n) count (and-left b c rest); within = record { from = omega arith; to = omega arith } }
+      record { among = ltb-true (lineTag first step n) count (and-left b c rest); within = record { from = omega arith; to = omega arith } }
 
   module _ (c : ℕ) (apart : size ≤ step) (i : InTag first step size count c n) where
     abbrev d : ℕ
@@ -44,7 +44,7 @@ module _ (first step size count n : ℕ) where
     near-step = omega (arith, near)
 
     -- it is the tag that the test finds
-    pub tag-found : tagOf first step n ≡ c
+    pub tag-found : lineTag first step n ≡ c
     tag-found = ap (λ (k : ℕ). k / step) pixel-is ∙ digits-div c near-step
 
     pub in-tag : inTag first step size count n ≡ true
@@ -52,8 +52,8 @@ module _ (first step size count n : ℕ) where
         let rest : (n - first) % step ≡ d = ap (λ (k : ℕ). k % step) pixel-is ∙ digits-mod c near-step in
         let from : first ≤ n = omega (arith, i .within .from) in
         let inside : (n - first) % step < size = omega (arith, rest, near) in
-        let among : tagOf first step n < count = omega (arith, tag-found, i .among) in
-        simp (le-leb first n from, lt-ltb (tagOf first step n) count among, lt-ltb ((n - first) % step) size inside)
+        let among : lineTag first step n < count = omega (arith, tag-found, i .among) in
+        simp (le-leb first n from, lt-ltb (lineTag first step n) count among, lt-ltb ((n - first) % step) size inside)
 
 -- each of n tags ends where the line of them does, or before: in cells, and in pixels
 cells-end : (side gap n c : ℕ) → c < n → c * (side + gap) + side ≤ n * side + (n - 1) * gap

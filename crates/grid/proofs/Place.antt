@@ -5,7 +5,7 @@ use native.Mathlib.Nat.{mul-zero, mul-comm, mod-lt, div-lt-iff-lt-mul, div-add-m
 use native.Mathlib.Omega.{arith}
 use Rattle.lists.proofs.Grid.{row-of, column-of, inside}
 use Rattle.grid.specs.Sheet.{positionAt}
-use Rattle.grid.specs.Quads.{tagCount, rowAt, columnAt}
+use Rattle.grid.specs.Quads.{tagCount, positionRow, positionColumn}
 use Rattle.grid.specs.declared.Grid.{Grid}
 
 -- a row of some tag has a tag
@@ -16,10 +16,10 @@ some-columns rows (suc columns) position h = zero-lt-suc columns
 module _ (grid : Grid) where
   -- the position of a row and a column
   module _ (row column : ℕ) (r : row < grid .rows) (c : column < grid .columns) where
-    pub position-row : rowAt grid (positionAt grid row column) ≡ row
+    pub position-row : positionRow grid (positionAt grid row column) ≡ row
     position-row = omega (arith, row-of (grid .columns) (grid .rows - 1 - row) column c)
 
-    pub position-column : columnAt grid (positionAt grid row column) ≡ column
+    pub position-column : positionColumn grid (positionAt grid row column) ≡ column
     position-column = column-of (grid .columns) (grid .rows - 1 - row) column c
 
     pub position-lt : positionAt grid row column < tagCount grid
@@ -32,13 +32,13 @@ module _ (grid : Grid) where
     pub up-lt : position / grid .columns < grid .rows
     up-lt = div-lt-iff-lt-mul (some-columns (grid .rows) (grid .columns) position h) .1 h
 
-    pub row-lt : rowAt grid position < grid .rows
+    pub row-lt : positionRow grid position < grid .rows
     row-lt = omega (arith, up-lt)
 
-    pub column-lt : columnAt grid position < grid .columns
+    pub column-lt : positionColumn grid position < grid .columns
     column-lt = mod-lt position (some-columns (grid .rows) (grid .columns) position h)
 
-    pub position-back : positionAt grid (rowAt grid position) (columnAt grid position) ≡ position
+    pub position-back : positionAt grid (positionRow grid position) (positionColumn grid position) ≡ position
     position-back =
-        let up : grid .rows - 1 - rowAt grid position ≡ position / grid .columns = omega (arith, up-lt) in
-        ap (λ (n : ℕ). n * grid .columns + columnAt grid position) up ∙ div-add-mod' position (grid .columns)
+        let up : grid .rows - 1 - positionRow grid position ≡ position / grid .columns = omega (arith, up-lt) in
+        ap (λ (n : ℕ). n * grid .columns + positionColumn grid position) up ∙ div-add-mod' position (grid .columns)

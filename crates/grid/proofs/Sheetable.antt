@@ -20,7 +20,7 @@ use Rattle.painter.specs.Tag.{sideOf}
 use Rattle.painter.specs.declared.Print.{Print}
 use Rattle.painter.proofs.Printable.{good-style}
 use Rattle.grid.specs.Sheet.{tagSize, stepOf}
-use Rattle.grid.specs.Quads.{tagCount, rowAt, columnAt, printOf}
+use Rattle.grid.specs.Quads.{tagCount, positionRow, positionColumn, positionPrint}
 use Rattle.grid.specs.Sheetable.{lineSize, badCounts, badEnd, badGrid, Sheetable, SmallGrid}
 use Rattle.grid.specs.declared.Grid.{Grid}
 use Rattle.grid.proofs.Line.{tag-ends}
@@ -81,11 +81,11 @@ tags-apart family grid print =
 
 -- each tag ends where the grid does, or before
 module _ (family : Family) (grid : Grid) (print : Print) (position : ℕ) (h : position < tagCount grid) where
-  pub across-ends : columnAt grid position * stepOf family grid print + tagSize family print ≤ lineSize family grid print (grid .columns)
-  across-ends = tag-ends (sideOf (family .edge) (family .border)) (grid .gap) (print .cell) (grid .columns) (columnAt grid position) (column-lt grid position h)
+  pub across-ends : positionColumn grid position * stepOf family grid print + tagSize family print ≤ lineSize family grid print (grid .columns)
+  across-ends = tag-ends (sideOf (family .edge) (family .border)) (grid .gap) (print .cell) (grid .columns) (positionColumn grid position) (column-lt grid position h)
 
-  pub down-ends : rowAt grid position * stepOf family grid print + tagSize family print ≤ lineSize family grid print (grid .rows)
-  down-ends = tag-ends (sideOf (family .edge) (family .border)) (grid .gap) (print .cell) (grid .rows) (rowAt grid position) (row-lt grid position h)
+  pub down-ends : positionRow grid position * stepOf family grid print + tagSize family print ≤ lineSize family grid print (grid .rows)
+  down-ends = tag-ends (sideOf (family .edge) (family .border)) (grid .gap) (print .cell) (grid .rows) (positionRow grid position) (row-lt grid position h)
 
 module _ {len : ℕ} {frame : Frame} {family : Family} {codes : List ℕ} {grid : Grid} {print : Print} {numbers : ℕ}
     (p : Sheetable len frame family codes grid print numbers) where
@@ -120,11 +120,11 @@ module _ {len : ℕ} {frame : Frame} {family : Family} {codes : List ℕ} {grid 
 
   -- the single painter takes the tag of each position
   pub tag-printable : (position : ℕ) → position < tagCount grid
-      → Printable len frame (family .edge) (family .border) (getD codes position 0) (printOf family grid print position)
+      → Printable len frame (family .edge) (family .border) (getD codes position 0) (positionPrint family grid print position)
   unfolding badPrint
   tag-printable position h =
       let t = good-table family codes (p .tables) in
-      let tag = printOf family grid print position in
+      let tag = positionPrint family grid print position in
       let size = tagSize family print in
       let small = t .coded .small position (code-known position h) in
       let right : tag .x + size + 1 ≤ frame .width = omega (arith, good .ends .right, across-ends family grid print position h) in

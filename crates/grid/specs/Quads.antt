@@ -16,21 +16,21 @@ abbrev pub tagCount : Grid → ℕ
 tagCount grid = grid .rows * grid .columns
 
 -- the row and the column of a position: position 0 stands in the last row from the top
-abbrev pub rowAt : Grid → ℕ → ℕ
-rowAt grid position = grid .rows - 1 - position / grid .columns
+abbrev pub positionRow : Grid → ℕ → ℕ
+positionRow grid position = grid .rows - 1 - position / grid .columns
 
-abbrev pub columnAt : Grid → ℕ → ℕ
-columnAt grid position = position % grid .columns
+abbrev pub positionColumn : Grid → ℕ → ℕ
+positionColumn grid position = position % grid .columns
 
 -- the single painter's print of the tag at a position
-abbrev pub printOf : Family → Grid → Print → ℕ → Print
-printOf family grid print position = printAt family grid print (rowAt grid position) (columnAt grid position)
+abbrev pub positionPrint : Family → Grid → Print → ℕ → Print
+positionPrint family grid print position = printAt family grid print (positionRow grid position) (positionColumn grid position)
 
 -- and its quad, which is the single painter's
-abbrev pub quadOf : Family → Grid → Print → ℕ → Quad
-quadOf family grid print position = printQuad (family .edge) (family .border) (printOf family grid print position)
+abbrev pub positionQuad : Family → Grid → Print → ℕ → Quad
+positionQuad family grid print position = printQuad (family .edge) (family .border) (positionPrint family grid print position)
 
 -- eight numbers a tag, in the order of positions
 unfoldable pub sheetQuads : Family → Grid → Print → List Float
 unfolding flatMap tabulate
-sheetQuads family grid print = flatMap numbersOf (tabulate (tagCount grid) (quadOf family grid print))
+sheetQuads family grid print = flatMap numbersOf (tabulate (tagCount grid) (positionQuad family grid print))

@@ -34,27 +34,30 @@ printAt family grid print row column =
     }
 
 -- "The lower left tag is position 0, numbers rise along a row and then upward."
+--     4 5      the positions of a grid of three rows and two columns
+--     2 3
+--     0 1
 abbrev pub positionAt : Grid → (row column : ℕ) → ℕ
 positionAt grid row column = (grid .rows - 1 - row) * grid .columns + column
 
 -- ---- one direction: `count` tags of `size` pixels, `step` pixels from one to the next, the first at pixel `first`
 
 -- pixel n lies in this tag, or in the gap behind it
-abbrev pub tagOf : (first step n : ℕ) → ℕ
-tagOf first step n = (n - first) / step
+abbrev pub lineTag : (first step n : ℕ) → ℕ
+lineTag first step n = (n - first) / step
 
 -- pixel n lies in a tag
 abbrev pub inTag : (first step size count n : ℕ) → Bool
-inTag first step size count n = leb first n && (ltb (tagOf first step n) count && ltb ((n - first) % step) size)
+inTag first step size count n = leb first n && (ltb (lineTag first step n) count && ltb ((n - first) % step) size)
 
 -- ---- the plane
 
 -- the row and the column of the grid that pixel (x, y) lies in, and whether it lies in the tag there: if not, in a gap or beside the grid
-abbrev pub columnOf : Family → Grid → Print → ℕ → ℕ
-columnOf family grid print x = tagOf (print .x) (stepOf family grid print) x
+abbrev pub pixelColumn : Family → Grid → Print → ℕ → ℕ
+pixelColumn family grid print x = lineTag (print .x) (stepOf family grid print) x
 
-abbrev pub rowOf : Family → Grid → Print → ℕ → ℕ
-rowOf family grid print y = tagOf (print .y) (stepOf family grid print) y
+abbrev pub pixelRow : Family → Grid → Print → ℕ → ℕ
+pixelRow family grid print y = lineTag (print .y) (stepOf family grid print) y
 
 abbrev pub inGrid : Family → Grid → Print → (x y : ℕ) → Bool
 inGrid family grid print x y =
@@ -69,7 +72,7 @@ shadeAt family codes grid print row column x y =
 -- pixel (x, y), which was `old`, after the tags are drawn: in a tag that tag's shade, elsewhere as it was
 abbrev pub sheetPixel : Family → List ℕ → Grid → Print → (x y old : ℕ) → ℕ
 sheetPixel family codes grid print x y old =
-    cond (inGrid family grid print x y) (shadeAt family codes grid print (rowOf family grid print y) (columnOf family grid print x) x y) old
+    cond (inGrid family grid print x y) (shadeAt family codes grid print (pixelRow family grid print y) (pixelColumn family grid print x) x y) old
 
 -- the plane is filled with light, then the tags are drawn
 abbrev pub sheet : Frame → Family → List ℕ → Grid → Print → List ℕ → List ℕ

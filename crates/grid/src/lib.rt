@@ -11,7 +11,7 @@ ghost use Rattle.lists.specs.Front.{inFront};
 ghost use Rattle.tables.specs.Table.{badEdge, badBorder};
 ghost use Rattle.painter.specs.Printable.{badStyle};
 ghost use Rattle.grid.specs.Sheet.{sheet};
-ghost use Rattle.grid.specs.Quads.{tagCount, printOf, sheetQuads};
+ghost use Rattle.grid.specs.Quads.{tagCount, positionPrint, sheetQuads};
 ghost use Rattle.grid.specs.Sheetable.{lineSize, badCounts, badGrid, badOutput, Sheetable, SmallGrid};
 
 // The tags in a column of the grid and in a row of it, and the cells of the gap between two of them.
@@ -83,9 +83,9 @@ pub fn bad_output(grid: Grid, numbers: usize) -> bool
 }
 
 // The single painter's print of the tag at a position: position 0 stands in the lowest row.
-fn print_of(family: Family, grid: Grid, print: Print, position: usize) -> Print
+fn position_print(family: Family, grid: Grid, print: Print, position: usize) -> Print
     requires { ⌜ SmallGrid family grid print × (position < tagCount grid) ⌝ }
-    ensures { λ r. ⌜ r ≡ printOf family grid print position ⌝ }
+    ensures { λ r. ⌜ r ≡ positionPrint family grid print position ⌝ }
 {
     let rows = grid.rows;
     let columns = grid.columns;
@@ -126,7 +126,7 @@ pub fn paint_sheet(
     painter::fill(plane, frame, print.light);
     let mut position = 0;
     while position < count {
-        let tag = print_of(family, grid, print, position);
+        let tag = position_print(family, grid, print, position);
         painter::draw_tag(plane, frame, edge, border, codes[position], tag);
         let quad = painter::print_quad(edge, border, tag);
         points::put_quad(quads, position, quad);

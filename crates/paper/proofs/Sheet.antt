@@ -29,7 +29,7 @@ use Rattle.painter.specs.declared.Print.{Print}
 use Rattle.painter.proofs.Painted.{length-painted}
 use Rattle.painter.proofs.Picture.{length-repainted, pixel-repainted}
 use Rattle.grid.specs.Sheet.{tagSize, sheetPixel, sheet}
-use Rattle.grid.specs.Quads.{tagCount, printOf}
+use Rattle.grid.specs.Quads.{tagCount, positionPrint}
 use Rattle.grid.specs.Sheetable.{Sheetable}
 use Rattle.grid.specs.declared.Grid.{Grid}
 use Rattle.grid.proofs.Quads.{quad-is}
@@ -52,7 +52,7 @@ use Rattle.paper.proofs.Demand3.{checked, own-listed, demand-3}
 module _ (family : Family) (codes : List ℕ) (grid : Grid) (print : Print) (plane : List ℕ) (frame : Frame) (quads : List Float) (shown : List ℕ) (written : List Float)
     (took : SheetPainted family codes grid print plane frame quads shown written) (position : ℕ) (known : position < tagCount grid) where
   abbrev tag : Print
-  tag = printOf family grid print position
+  tag = positionPrint family grid print position
 
   abbrev word : ℕ
   word = getD codes position 0

@@ -17,7 +17,7 @@ use Rattle.tag_families.specs.Families.{familyOf, codesOf}
 use Rattle.painter.specs.Picture.{inBlock}
 use Rattle.painter.specs.declared.Print.{Print}
 use Rattle.grid.specs.Sheet.{tagSize}
-use Rattle.grid.specs.Quads.{tagCount, printOf}
+use Rattle.grid.specs.Quads.{tagCount, positionPrint}
 use Rattle.grid.specs.declared.Grid.{Grid}
 use Rattle.muosleap.specs.Quad.{decodeQuad}
 use Rattle.muosleap_paint.specs.PaintTag.{Painting, paintTag}
@@ -32,14 +32,14 @@ SheetPainted family codes grid print plane frame quads shown written =
 -- "the single painted tag": the code of a position, painted alone where the sheet has it
 abbrev pub single : Family → List ℕ → Grid → Print → List ℕ → Frame → ℕ → Painting
 single family codes grid print plane frame position =
-    paintTag plane frame (family .edge) (family .border) (getD codes position 0) (printOf family grid print position)
+    paintTag plane frame (family .edge) (family .border) (getD codes position 0) (positionPrint family grid print position)
 
 -- the tag of a position, whatever the table
 pub record Shows (family : Family) (codes : List ℕ) (grid : Grid) (print : Print) (plane : List ℕ) (frame : Frame) (shown : List ℕ) (written : List Float) (position : ℕ) : Type 0 where
   -- "It also writes the quads, in that order.": the single painter takes the tag, and its quad stands at the position
   pub quad : single family codes grid print plane frame position .answer ≡ accepted (quadAt written position)
   -- in its own square the sheet shows what the single painter paints
-  pub square : (x y : ℕ) → x < frame .width → y < frame .height → let tag = printOf family grid print position in
+  pub square : (x y : ℕ) → x < frame .width → y < frame .height → let tag = positionPrint family grid print position in
       inBlock (tag .x) (tag .y) (tagSize family print) (tagSize family print) x y ≡ true
       → levelAt shown frame x y ≡ levelAt (single family codes grid print plane frame position .plane) frame x y
 

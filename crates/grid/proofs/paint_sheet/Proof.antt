@@ -58,8 +58,8 @@ start l = l .before .before .before .before .before .before .before .before .bef
 below : (c : tie.In-loop Inv-loop μ-loop) → c .before .loop .position < tagCount (start (c .before) .args .grid)
 below c = omega (arith, c .loop-test .taken, c .before .loop .inv .0)
 
-print-of-requires : tie.Need-print-of-requires Inv-loop μ-loop
-print-of-requires c κs = (small-grid (start (c .before) .pre), below c)
+position-print-requires : tie.Need-position-print-requires Inv-loop μ-loop
+position-print-requires c κs = (small-grid (start (c .before) .pre), below c)
 
 shared-slice-read-draw-tag : tie.Need-shared-slice-read-draw-tag Inv-loop μ-loop
 shared-slice-read-draw-tag c =
@@ -67,12 +67,12 @@ shared-slice-read-draw-tag c =
     code-known (start (t .before) .pre) (t .before .loop .position) (below t)
 
 -- the single painter takes the tag
-printable : (c : tie.After-print-of Inv-loop μ-loop) → let l = c .before .before in let a = start l .args in
-    Printable (length (a .plane .now)) (a .frame) (a .family .edge) (a .family .border) (getD (a .codes .now) (l .loop .position) 0) (c .print-of .result)
+printable : (c : tie.After-position-print Inv-loop μ-loop) → let l = c .before .before in let a = start l .args in
+    Printable (length (a .plane .now)) (a .frame) (a .family .edge) (a .family .border) (getD (a .codes .now) (l .loop .position) 0) (c .position-print .result)
 printable c =
     let l = c .before .before in
     let a = start l .args in
-    subst (Printable (length (a .plane .now)) (a .frame) (a .family .edge) (a .family .border) (getD (a .codes .now) (l .loop .position) 0)) (sym (c .print-of .ensures))
+    subst (Printable (length (a .plane .now)) (a .frame) (a .family .edge) (a .family .border) (getD (a .codes .now) (l .loop .position) 0)) (sym (c .position-print .ensures))
     (tag-printable (start l .pre) (l .loop .position) (below (c .before)))
 
 -- the plane is as long as it was
@@ -118,7 +118,7 @@ loop-again c =
     let e = a .family .edge in
     let b = a .family .border in
     let n = l .loop .position in
-    let tag = c .before .before .before .before .before .before .before .before .before .before .print-of .ensures in (
+    let tag = c .before .before .before .before .before .before .before .before .before .before .position-print .ensures in (
       l .loop .inv .0,
       omega (arith, t .loop-test .taken),
       tag-more (a .family) (a .codes .now) (a .grid) (a .print) (a .frame) (l .before .before .before .fill .last .0) n (l .loop .plane) (d .draw-tag .last .0) (below t) (l .loop .inv .2)
@@ -149,7 +149,7 @@ paint-sheet-spec =
     tag-count-requires
     fill-requires
     loop-holds
-    print-of-requires
+    position-print-requires
     (λ c. omega (arith, below (c .before .before), tags-le (start (c .before .before .before) .pre)))  -- mul-draw-tag
     shared-slice-read-draw-tag
     draw-tag-requires

@@ -3,12 +3,12 @@ use mathlib.Core.Path.{ap}
 use Prim.Native.Nat.{ℕ, _+_, _*_, _≤_, _<_}
 use native.Mathlib.Nat.{mul-le-mul}
 use native.Mathlib.Omega.{arith}
-use Rattle.grid.specs.Quads.{rowAt, columnAt}
+use Rattle.grid.specs.Quads.{positionRow, positionColumn}
 use Rattle.grid.proofs.Place.{some-columns, up-lt}
 use Rattle.grid.proofs.Sheetable.{across-ends, down-ends}
 use borrow.Author.Needs.{needs}
-use Rattle.grid.proofs.print_of.Statement.{statement}
-use Rattle.grid.proofs.print_of.Tie as tie
+use Rattle.grid.proofs.position_print.Statement.{statement}
+use Rattle.grid.proofs.position_print.Tie as tie
 
 some : (c : tie.Start) → 0 < c .args .grid .columns
 some c = some-columns (c .args .grid .rows) (c .args .grid .columns) (c .args .position) (c .pre .1)
@@ -29,16 +29,16 @@ mul-step c =
     omega (arith, mul-le-mul cells (c .before .pre .0 .cells))
 
 -- the tag's place is not beyond the grid's end
-across : (c : tie.After-side-of) → let a = c .before .args in a .print .x + columnAt (a .grid) (a .position) * step c ≤ 4096
+across : (c : tie.After-side-of) → let a = c .before .args in a .print .x + positionColumn (a .grid) (a .position) * step c ≤ 4096
 across c =
     let a = c .before .args in
-    let e = ap (λ (side : ℕ). columnAt (a .grid) (a .position) * ((side + a .grid .gap) * a .print .cell)) (c .side-of .ensures) in
+    let e = ap (λ (side : ℕ). positionColumn (a .grid) (a .position) * ((side + a .grid .gap) * a .print .cell)) (c .side-of .ensures) in
     omega (arith, e, across-ends (a .family) (a .grid) (a .print) (a .position) (c .before .pre .1), c .before .pre .0 .wide)
 
-down : (c : tie.After-side-of) → let a = c .before .args in a .print .y + rowAt (a .grid) (a .position) * step c ≤ 4096
+down : (c : tie.After-side-of) → let a = c .before .args in a .print .y + positionRow (a .grid) (a .position) * step c ≤ 4096
 down c =
     let a = c .before .args in
-    let e = ap (λ (side : ℕ). rowAt (a .grid) (a .position) * ((side + a .grid .gap) * a .print .cell)) (c .side-of .ensures) in
+    let e = ap (λ (side : ℕ). positionRow (a .grid) (a .position) * ((side + a .grid .gap) * a .print .cell)) (c .side-of .ensures) in
     omega (arith, e, down-ends (a .family) (a .grid) (a .print) (a .position) (c .before .pre .1), c .before .pre .0 .high)
 
 returns : tie.Need-returns
@@ -46,16 +46,16 @@ returns c =
     let a = c .before .args in
     ap (λ (side : ℕ). let s = (side + a .grid .gap) * a .print .cell in
     record {
-      x = a .print .x + columnAt (a .grid) (a .position) * s;
-      y = a .print .y + rowAt (a .grid) (a .position) * s;
+      x = a .print .x + positionColumn (a .grid) (a .position) * s;
+      y = a .print .y + positionRow (a .grid) (a .position) * s;
       cell = a .print .cell;
       turn = a .print .turn;
       light = a .print .light;
       dark = a .print .dark;
     }) (c .side-of .ensures)
 
-pub print-of-spec : {M : Type 1} → statement M
-print-of-spec =
+pub position-print-spec : {M : Type 1} → statement M
+position-print-spec =
     tie.close
     (tie.spec
     sub-row
