@@ -1,6 +1,6 @@
 -- Blocks of pixels that are painted one after another. Assumes nothing.
 use mathlib.Core.Path.{_≡_, refl, sym, ap, ap₂, _∙_}
-use mathlib.Core.Bool.{Bool, true, false, _&&_, _||_, cond, and-or-distrib-left, and-or-distrib-right, and-false, true≢false}
+use mathlib.Core.Bool.{Bool, true, false, _&&_, _||_, cond, and-or-distrib-left, and-false, true≢false}
 use mathlib.Core.List.{List}
 use Prim.Native.Nat.{ℕ, _+_, _-_, _<_, _≤_}
 use native.Mathlib.Omega.{arith}
@@ -10,7 +10,7 @@ use Rattle.lists.proofs.Bools.{same-test, and-left, and-right, overlay}
 use Rattle.refusals.specs.Pixels.{badFrame, placeOf, columnOf, lineOf, isPixel}
 use Rattle.refusals.specs.declared.Frame.{Frame}
 use Rattle.refusals.proofs.Pixels.{place-column, place-row, byte-place, place-beside, good-frame}
-use Rattle.painter.specs.Picture.{repainted, between, runFilled, inBlock, blockPixel, filled}
+use Rattle.painter.specs.Picture.{repainted, between, runWritten, inBlock, blockPixel, filled}
 use Rattle.painter.proofs.Runs.{Within, is-within, within, between-none, between-more, length-run, byte-run}
 use Rattle.painter.proofs.Picture.{is-repainted, byte-is, repainted-none, repainted-twice, repainted-same}
 
@@ -27,35 +27,30 @@ is-in x0 y0 wide high x y e = record {
 pub block-in : (x0 y0 wide high x y : ℕ) → x0 ≤ x → x < x0 + wide → y0 ≤ y → y < y0 + high → inBlock x0 y0 wide high x y ≡ true
 block-in x0 y0 wide high x y a b c d = ap₂ _&&_ (within x0 wide x a b) (within y0 high y c d)
 
--- a block with more rows, and with more columns
+-- a block with more rows, and one of none
 pub more-rows : (x0 y0 wide n m x y : ℕ) → inBlock x0 y0 wide (n + m) x y ≡ inBlock x0 y0 wide n x y || inBlock x0 (y0 + n) wide m x y
 more-rows x0 y0 wide n m x y =
     ap (λ (t : Bool). between x0 wide x && t) (between-more y0 n m y)
     ∙ and-or-distrib-left (between x0 wide x) (between y0 n y) (between (y0 + n) m y)
 
-pub more-columns : (x0 y0 n m high x y : ℕ) → inBlock x0 y0 (n + m) high x y ≡ inBlock x0 y0 n high x y || inBlock (x0 + n) y0 m high x y
-more-columns x0 y0 n m high x y =
-    ap (λ (t : Bool). t && between y0 high y) (between-more x0 n m x)
-    ∙ and-or-distrib-right (between x0 n x) (between (x0 + n) m x) (between y0 high y)
-
--- a block of no rows, and of no columns
 pub no-rows : (x0 y0 wide x y : ℕ) → inBlock x0 y0 wide 0 x y ≡ false
 no-rows x0 y0 wide x y = ap (λ (t : Bool). between x0 wide x && t) (between-none y0 y) ∙ and-false (between x0 wide x)
-
-pub no-columns : (x0 y0 high x y : ℕ) → inBlock x0 y0 0 high x y ≡ false
-no-columns x0 y0 high x y = ap (λ (t : Bool). t && between y0 high y) (between-none x0 x)
 
 -- ---- a run of bytes within a row is a block of one row
 
 module _ (frame : Frame) (x y n k : ℕ) (fits : x + n ≤ frame .width) (pitched : frame .width ≤ frame .pitch) where
-  run-to-block : Within (placeOf frame x y) n k → In x y n 1 (columnOf frame k) (lineOf frame k)
-  run-to-block i =
+  -- the run's byte i is the block's pixel i
+  run-pixel : Within (placeOf frame x y) n k → (columnOf frame k ≡ x + (k - placeOf frame x y)) × (lineOf frame k ≡ y)
+  run-pixel i =
       let d = k - placeOf frame x y in
       let wide : x + d < frame .pitch = omega (arith, i .from, i .to) in
       let e : placeOf frame (x + d) y ≡ k = place-beside frame x y d ∙ omega (arith, i .from) in
-      let column : columnOf frame k ≡ x + d = ap (columnOf frame) (sym e) ∙ place-column frame (x + d) y wide in
-      let row : lineOf frame k ≡ y = ap (lineOf frame) (sym e) ∙ place-row frame (x + d) y wide in
-      record { across = record { from = omega arith; to = omega (arith, i .from, i .to) }; down = record { from = omega arith; to = omega arith } }
+      (ap (columnOf frame) (sym e) ∙ place-column frame (x + d) y wide, ap (lineOf frame) (sym e) ∙ place-row frame (x + d) y wide)
+
+  run-to-block : Within (placeOf frame x y) n k → In x y n 1 (columnOf frame k) (lineOf frame k)
+  run-to-block i =
+      let p = run-pixel i in
+      record { across = record { from = omega (arith, p .0); to = omega (arith, p .0, i .from, i .to) }; down = record { from = omega (arith, p .1); to = omega (arith, p .1) } }
 
   block-to-run : In x y n 1 (columnOf frame k) (lineOf frame k) → Within (placeOf frame x y) n k
   block-to-run i =
@@ -81,38 +76,46 @@ run-filler frame x y n k fits pitched e =
     absurd (omega (arith, i .across .to)))
     (λ b. absurd (true≢false (sym b)))
 
-run-painted : (frame : Frame) (x y n shade : ℕ) (plane : List ℕ) → x + n ≤ frame .width → frame .width ≤ frame .pitch
-    → runFilled (placeOf frame x y) n shade plane ≡ repainted frame (blockPixel x y n 1 shade) plane
-run-painted frame x y n shade plane fits pitched =
-    is-repainted frame (blockPixel x y n 1 shade) plane (runFilled (placeOf frame x y) n shade plane) (length-run (placeOf frame x y) shade plane n)
+-- two tests alike, which set the same where they pass
+same-set : (a b : Bool) (s t old : ℕ) → a ≡ b → (a ≡ true → s ≡ t) → cond a s old ≡ cond b t old
+same-set true b s t old e h = h refl ∙ ap (λ (u : Bool). cond u t old) e
+same-set false b s t old e h = ap (λ (u : Bool). cond u t old) e
+
+run-painted : (frame : Frame) (x y n : ℕ) (new : ℕ → ℕ) (plane : List ℕ) → x + n ≤ frame .width → frame .width ≤ frame .pitch
+    → runWritten (placeOf frame x y) n new plane ≡ repainted frame (blockPixel x y n 1 new) plane
+run-painted frame x y n new plane fits pitched =
+    let start = placeOf frame x y in
+    is-repainted frame (blockPixel x y n 1 new) plane (runWritten start n new plane) (length-run start new plane n)
     (λ k b.
-    let run = byte-run (placeOf frame x y) shade plane n k b in
-    let byte : Bool → ℕ = λ t. cond t shade (getD plane k 0) in
-    byte-is frame (blockPixel x y n 1 shade) k (getD plane k 0) (getD (runFilled (placeOf frame x y) n shade plane) k 0)
-    (λ _. run ∙ ap byte (run-block frame x y n k fits pitched))
-    (λ e. run ∙ ap byte (run-filler frame x y n k fits pitched e)))
+    let run = byte-run start new plane n k b in
+    byte-is frame (blockPixel x y n 1 new) k (getD plane k 0) (getD (runWritten start n new plane) k 0)
+    (λ _.
+    run ∙ same-set (between start n k) (inBlock x y n 1 (columnOf frame k) (lineOf frame k)) (new (k - start)) (new (columnOf frame k - x)) (getD plane k 0)
+    (run-block frame x y n k fits pitched)
+    (λ t. ap new (omega (arith, run-pixel frame x y n k fits pitched (is-within start n k t) .0))))
+    (λ e. run ∙ ap (λ (t : Bool). cond t (new (k - start)) (getD plane k 0)) (run-filler frame x y n k fits pitched e)))
 
 -- ---- the loop that paints a block row by row
 
-module _ (frame : Frame) (x y wide shade : ℕ) (plane : List ℕ) where
-  pub block-none : plane ≡ repainted frame (blockPixel x y wide 0 shade) plane
+module _ (frame : Frame) (x y wide : ℕ) (new : ℕ → ℕ) (plane : List ℕ) where
+  pub block-none : plane ≡ repainted frame (blockPixel x y wide 0 new) plane
   block-none =
-      repainted-none frame (blockPixel x y wide 0 shade) plane (λ px py old. ap (λ (t : Bool). cond t shade old) (no-rows x y wide px py))
+      repainted-none frame (blockPixel x y wide 0 new) plane (λ px py old. ap (λ (t : Bool). cond t (new (px - x)) old) (no-rows x y wide px py))
 
-  pub block-more : (n : ℕ) (out next : List ℕ) → x + wide ≤ frame .width → frame .width ≤ frame .pitch → out ≡ repainted frame (blockPixel x y wide n shade) plane
-      → next ≡ runFilled (placeOf frame x (y + n)) wide shade out → next ≡ repainted frame (blockPixel x y wide (n + 1) shade) plane
+  pub block-more : (n : ℕ) (out next : List ℕ) → x + wide ≤ frame .width → frame .width ≤ frame .pitch → out ≡ repainted frame (blockPixel x y wide n new) plane
+      → next ≡ runWritten (placeOf frame x (y + n)) wide new out → next ≡ repainted frame (blockPixel x y wide (n + 1) new) plane
   block-more n out next fits pitched e r =
-      r ∙ run-painted frame x (y + n) wide shade out fits pitched
-      ∙ ap (repainted frame (blockPixel x (y + n) wide 1 shade)) e
-      ∙ repainted-twice frame (blockPixel x y wide n shade) (blockPixel x (y + n) wide 1 shade) (blockPixel x y wide (n + 1) shade) plane (λ px py old.
-      overlay (inBlock x y wide n px py) (inBlock x (y + n) wide 1 px py) shade shade old (λ t. refl)
-      ∙ ap (λ (t : Bool). cond t shade old) (sym (more-rows x y wide n 1 px py)))
+      r ∙ run-painted frame x (y + n) wide new out fits pitched
+      ∙ ap (repainted frame (blockPixel x (y + n) wide 1 new)) e
+      ∙ repainted-twice frame (blockPixel x y wide n new) (blockPixel x (y + n) wide 1 new) (blockPixel x y wide (n + 1) new) plane (λ px py old.
+      overlay (inBlock x y wide n px py) (inBlock x (y + n) wide 1 px py) (new (px - x)) (new (px - x)) old (λ t. refl)
+      ∙ ap (λ (t : Bool). cond t (new (px - x)) old) (sym (more-rows x y wide n 1 px py)))
 
 -- the block of all rows and columns has every pixel
 pub whole-block : (frame : Frame) (light : ℕ) (plane next : List ℕ) → badFrame (length plane) frame ≡ false
-    → next ≡ repainted frame (blockPixel 0 0 (frame .width) (frame .height) light) plane → next ≡ filled frame light plane
+    → next ≡ repainted frame (blockPixel 0 0 (frame .width) (frame .height) (λ i. light)) plane → next ≡ filled frame light plane
 whole-block frame light plane next good e =
     let w = frame .width in
     let h = frame .height in
-    e ∙ repainted-same frame (blockPixel 0 0 w h light) (λ x y old. light) plane (good-frame good) (λ x y old hx hy.
+    e ∙ repainted-same frame (blockPixel 0 0 w h (λ i. light)) (λ x y old. light) plane (good-frame good) (λ x y old hx hy.
     ap (λ (t : Bool). cond t light old) (block-in 0 0 w h x y (omega arith) (omega arith) (omega arith) (omega arith)))

@@ -4,6 +4,7 @@ pub mod Block
 pub mod Part
 pub mod Modules
 pub mod Turned
+pub mod Line
 pub mod Half
 pub mod Printable
 pub mod Painted

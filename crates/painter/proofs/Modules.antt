@@ -1,6 +1,6 @@
 -- The module of a print's cell, and where the word has it. Assumes nothing.
-use mathlib.Core.Path.{_≡_, ap₂, _∙_}
-use mathlib.Core.Bool.{true, false, and-false}
+use mathlib.Core.Path.{_≡_, sym, ap, ap₂, _∙_}
+use mathlib.Core.Bool.{Bool, true, false, _&&_, and-false, and-assoc}
 use Prim.Native.Nat.{ℕ, _+_, _-_, _*_, _<_, _≤_}
 use native.Mathlib.Nat.{mul-le-mul}
 use native.Mathlib.Omega.{arith}
@@ -27,6 +27,12 @@ module _ (edge border word : ℕ) where
   pub column-dark : (c : Cell) → between border edge (c .column) ≡ false → isLight edge border word c ≡ false
   unfolding isLight
   column-dark c e = simp e (and-false (between border edge (c .row)))
+
+  pub outside-dark : (c : Cell) → between border edge (c .row) && between border edge (c .column) ≡ false → isLight edge border word c ≡ false
+  unfolding isLight
+  outside-dark c e =
+      let bit = eqb (moduleBit edge word (c .row - border) (c .column - border)) 1 in
+      sym (and-assoc (between border edge (c .row)) (between border edge (c .column)) bit) ∙ ap (λ (t : Bool). t && bit) e
 
   -- and inside them a module is light where its bit is 1
   pub inside-light : (c : Cell) → between border edge (c .row) ≡ true → between border edge (c .column) ≡ true

@@ -74,11 +74,6 @@ module _ (frame : Frame) where
       ∙ ap (repaintedByte frame g k) (byte-repainted f plane k 0 b)
       ∙ twice f g h e k (getD plane k 0))
 
-  -- two paintings that are the same
-  pub repainted-alike : (f g : ℕ → ℕ → ℕ → ℕ) (plane : List ℕ) → ((x y old : ℕ) → f x y old ≡ g x y old) → repainted frame f plane ≡ repainted frame g plane
-  repainted-alike f g plane e =
-      repainted-none (λ x y old. old) (repainted frame f plane) (λ x y old. refl) ∙ repainted-twice f (λ x y old. old) g plane e
-
   -- two paintings that agree on every pixel of the plane
   pub repainted-same : (f g : ℕ → ℕ → ℕ → ℕ) (plane : List ℕ) → Framed (length plane) frame
       → ((x y old : ℕ) → x < frame .width → y < frame .height → f x y old ≡ g x y old) → repainted frame f plane ≡ repainted frame g plane

@@ -1,8 +1,8 @@
--- Runs of numbers, and the loop that gives a run of bytes one shade. Assumes nothing.
+-- Runs of numbers, and the loops that write a run of bytes. Assumes nothing.
 use mathlib.Core.Path.{_≡_, refl, sym, ap, ap₂, _∙_}
 use mathlib.Core.Bool.{Bool, true, false, _&&_, _||_, cond, or-false}
 use mathlib.Core.List.{List}
-use Prim.Native.Nat.{ℕ, _+_, _<_, _≤_}
+use Prim.Native.Nat.{ℕ, _+_, _-_, _<_, _≤_}
 use native.Mathlib.Nat.{add-assoc}
 use native.Mathlib.Omega.{arith}
 use borrow.Author.Tests.{lt-ltb, le-ltb, le-leb, lt-leb, ltb-true, ltb-false, leb-true, eqb-true, eqb-false}
@@ -11,8 +11,8 @@ use lib.ListN.{length, getD, set, length-set}
 use lib.Seq.{ext-getD, getD-set-same, getD-set-other}
 use Rattle.lists.specs.Tab.{tabulate}
 use Rattle.lists.proofs.Tab.{length-tabulate, getD-tabulate}
-use Rattle.lists.proofs.Bools.{and-left, and-right}
-use Rattle.painter.specs.Picture.{between, runFilled}
+use Rattle.lists.proofs.Bools.{and-left, and-right, overlay}
+use Rattle.painter.specs.Picture.{between, runWritten}
 
 -- ---- what the test of a run says
 
@@ -75,35 +75,85 @@ tabulated f n l e h =
     ext-getD 0 l (tabulate n f) (e ∙ sym (length-tabulate n f))
     (λ k b. let b′ : k < n = omega arith in h k b′ ∙ sym (getD-tabulate n f k 0 b′))
 
-module _ (start shade : ℕ) (bytes : List ℕ) where
-  pub length-run : (n : ℕ) → length (runFilled start n shade bytes) ≡ length bytes
-  length-run n = length-tabulate (length bytes) (λ k. cond (between start n k) shade (getD bytes k 0))
+module _ (start : ℕ) (new : ℕ → ℕ) (bytes : List ℕ) where
+  -- byte k, after n of the run are written
+  abbrev byte : (n k : ℕ) → ℕ
+  byte n k = cond (between start n k) (new (k - start)) (getD bytes k 0)
 
-  pub byte-run : (n k : ℕ) → k < length bytes → getD (runFilled start n shade bytes) k 0 ≡ cond (between start n k) shade (getD bytes k 0)
-  byte-run n k h = getD-tabulate (length bytes) (λ k. cond (between start n k) shade (getD bytes k 0)) k 0 h
+  pub length-run : (n : ℕ) → length (runWritten start n new bytes) ≡ length bytes
+  length-run n = length-tabulate (length bytes) (byte n)
+
+  pub byte-run : (n k : ℕ) → k < length bytes → getD (runWritten start n new bytes) k 0 ≡ byte n k
+  byte-run n k h = getD-tabulate (length bytes) (byte n) k 0 h
 
   -- nothing is written yet
-  pub run-none : bytes ≡ runFilled start 0 shade bytes
-  run-none =
-      tabulated (λ k. cond (between start 0 k) shade (getD bytes k 0)) (length bytes) bytes refl
-      (λ k b. sym (ap (λ (t : Bool). cond t shade (getD bytes k 0)) (between-none start k)))
+  pub run-none : bytes ≡ runWritten start 0 new bytes
+  run-none = tabulated (byte 0) (length bytes) bytes refl (λ k b. sym (ap (λ (t : Bool). cond t (new (k - start)) (getD bytes k 0)) (between-none start k)))
 
   -- one byte more is written
-  pub run-more : (n : ℕ) → start + n < length bytes → set (runFilled start n shade bytes) (start + n) shade ≡ runFilled start (n + 1) shade bytes
-  run-more n h =
-      tabulated (λ k. cond (between start (n + 1) k) shade (getD bytes k 0)) (length bytes) (set (runFilled start n shade bytes) (start + n) shade)
-      (length-set (runFilled start n shade bytes) (start + n) shade ∙ length-run n)
+  pub run-more : (n v : ℕ) → start + n < length bytes → v ≡ new n → set (runWritten start n new bytes) (start + n) v ≡ runWritten start (n + 1) new bytes
+  run-more n v h q =
+      tabulated (byte (n + 1)) (length bytes) (set (runWritten start n new bytes) (start + n) v)
+      (length-set (runWritten start n new bytes) (start + n) v ∙ length-run n)
       (λ k b. at k b (eqb k (start + n)) refl)
     where
-      at : (k : ℕ) → k < length bytes → (t : Bool) → eqb k (start + n) ≡ t
-          → getD (set (runFilled start n shade bytes) (start + n) shade) k 0 ≡ cond (between start (n + 1) k) shade (getD bytes k 0)
+      at : (k : ℕ) → k < length bytes → (t : Bool) → eqb k (start + n) ≡ t → getD (set (runWritten start n new bytes) (start + n) v) k 0 ≡ byte (n + 1) k
       at k b true e =
-          let q = eqb-true k (start + n) e in
-          ap (λ (i : ℕ). getD (set (runFilled start n shade bytes) (start + n) shade) i 0) q
-          ∙ getD-set-same (runFilled start n shade bytes) (start + n) shade 0 (rw length-run h)
-          ∙ sym (ap (λ (t : Bool). cond t shade (getD bytes k 0)) (within start (n + 1) k (omega arith) (omega arith)))
+          let p = eqb-true k (start + n) e in
+          let i : n ≡ k - start = omega arith in
+          ap (λ (i : ℕ). getD (set (runWritten start n new bytes) (start + n) v) i 0) p
+          ∙ getD-set-same (runWritten start n new bytes) (start + n) v 0 (rw length-run h)
+          ∙ q ∙ ap new i
+          ∙ sym (ap (λ (t : Bool). cond t (new (k - start)) (getD bytes k 0)) (within start (n + 1) k (omega arith) (omega arith)))
       at k b false e =
           let ne = eqb-false k (start + n) e in
-          getD-set-other (runFilled start n shade bytes) (start + n) k shade 0 ne ∙ byte-run n k b
-          ∙ sym (ap (λ (t : Bool). cond t shade (getD bytes k 0))
+          getD-set-other (runWritten start n new bytes) (start + n) k v 0 ne ∙ byte-run n k b
+          ∙ sym (ap (λ (t : Bool). cond t (new (k - start)) (getD bytes k 0))
           (between-more start n 1 k ∙ ap (λ (t : Bool). between start n k || t) (between-one (start + n) k ne) ∙ or-false (between start n k)))
+
+-- ---- runs from the first byte on
+
+module _ (new : ℕ → ℕ) (bytes : List ℕ) where
+  abbrev front : (n k : ℕ) → ℕ
+  front n k = cond (between 0 n k) (new k) (getD bytes k 0)
+
+  front-run : (n k : ℕ) → k < length bytes → getD (runWritten 0 n new bytes) k 0 ≡ front n k
+  front-run n k h = byte-run 0 new bytes n k h ∙ ap (λ (i : ℕ). cond (between 0 n k) (new i) (getD bytes k 0)) (omega arith)
+
+  -- a list with these bytes is the run, and m bytes more of it
+  is-front : (n m : ℕ) (l : List ℕ) → length l ≡ length bytes
+      → ((k : ℕ) → k < length bytes → getD l k 0 ≡ cond (between 0 n k || between n m k) (new k) (getD bytes k 0)) → l ≡ runWritten 0 (n + m) new bytes
+  is-front n m l e h =
+      ext-getD 0 l (runWritten 0 (n + m) new bytes) (e ∙ sym (length-run 0 new bytes (n + m)))
+      (λ k b.
+      let b′ : k < length bytes = omega arith in
+      let more : between 0 (n + m) k ≡ between 0 n k || between n m k = between-more 0 n m k ∙ ap (λ (i : ℕ). between 0 n k || between i m k) (omega arith) in
+      h k b′ ∙ ap (λ (t : Bool). cond t (new k) (getD bytes k 0)) (sym more) ∙ sym (front-run (n + m) k b′))
+
+  -- m bytes more are written, by another run
+  pub run-further : (n m : ℕ) (other : ℕ → ℕ) → ((k : ℕ) → Within n m k → other (k - n) ≡ new k)
+      → runWritten n m other (runWritten 0 n new bytes) ≡ runWritten 0 (n + m) new bytes
+  run-further n m other h =
+      let out = runWritten 0 n new bytes in
+      is-front n m (runWritten n m other out) (length-run n other out m ∙ length-run 0 new bytes n)
+      (λ k b.
+      byte-run n other out m k (rw length-run b)
+      ∙ ap (λ (old : ℕ). cond (between n m k) (other (k - n)) old) (front-run n k b)
+      ∙ overlay (between 0 n k) (between n m k) (new k) (other (k - n)) (getD bytes k 0) (λ t. h k (is-within n m k t)))
+
+  -- m bytes more are as they should be
+  pub run-as-is : (n m : ℕ) → ((k : ℕ) → k < length bytes → Within n m k → getD bytes k 0 ≡ new k) → runWritten 0 n new bytes ≡ runWritten 0 (n + m) new bytes
+  run-as-is n m h =
+      is-front n m (runWritten 0 n new bytes) (length-run 0 new bytes n)
+      (λ k b. front-run n k b ∙ either (between 0 n k) (between n m k) (new k) (getD bytes k 0) (λ t. h k b (is-within n m k t)))
+    where
+      either : (a b : Bool) (s old : ℕ) → (b ≡ true → old ≡ s) → cond a s old ≡ cond (a || b) s old
+      either true b s old e = refl
+      either false true s old e = e refl
+      either false false s old e = refl
+
+  -- all bytes are written
+  pub run-all : (n : ℕ) → length bytes ≡ n → runWritten 0 n new bytes ≡ tabulate n new
+  run-all n e =
+      tabulated new n (runWritten 0 n new bytes) (length-run 0 new bytes n ∙ e)
+      (λ k b. front-run n k (rw e b) ∙ ap (λ (t : Bool). cond t (new k) (getD bytes k 0)) (within 0 n k (omega arith) (omega arith)))

@@ -1,5 +1,5 @@
 -- An 8-bit plane as a picture that is painted. Assumes nothing.
-use Prim.Native.Nat.{ℕ, _+_}
+use Prim.Native.Nat.{ℕ, _+_, _-_}
 use mathlib.Core.Bool.{Bool, _&&_, cond}
 use mathlib.Core.List.{List}
 use lib.Dec.{ltb, leb}
@@ -12,9 +12,9 @@ use Rattle.refusals.specs.declared.Frame.{Frame}
 abbrev pub between : ℕ → ℕ → ℕ → Bool
 between x0 n x = leb x0 x && ltb x (x0 + n)
 
--- the bytes after the n of them from `start` on have got one shade
-abbrev pub runFilled : (start n shade : ℕ) → List ℕ → List ℕ
-runFilled start n shade bytes = tabulate (length bytes) (λ k. cond (between start n k) shade (getD bytes k 0))
+-- the bytes after the n of them from `start` on have been written: byte `start + i` has become `new i`
+abbrev pub runWritten : (start n : ℕ) → (ℕ → ℕ) → List ℕ → List ℕ
+runWritten start n new bytes = tabulate (length bytes) (λ k. cond (between start n k) (new (k - start)) (getD bytes k 0))
 
 -- byte k, which was `old`, after each pixel (x, y) has become `pixel x y old`: "The painter leaves filler as it found it."
 abbrev pub repaintedByte : Frame → (ℕ → ℕ → ℕ → ℕ) → (k old : ℕ) → ℕ
@@ -29,9 +29,9 @@ repainted frame pixel plane = tabulate (length plane) (λ k. repaintedByte frame
 abbrev pub inBlock : (x0 y0 wide high x y : ℕ) → Bool
 inBlock x0 y0 wide high x y = between x0 wide x && between y0 high y
 
--- pixel (x, y), which was `old`, after the block has got one shade
-abbrev pub blockPixel : (x0 y0 wide high shade x y old : ℕ) → ℕ
-blockPixel x0 y0 wide high shade x y old = cond (inBlock x0 y0 wide high x y) shade old
+-- pixel (x, y), which was `old`, after each row of the block has been written alike: its pixel i has become `new i`
+abbrev pub blockPixel : (x0 y0 wide high : ℕ) → (ℕ → ℕ) → (x y old : ℕ) → ℕ
+blockPixel x0 y0 wide high new x y old = cond (inBlock x0 y0 wide high x y) (new (x - x0)) old
 
 -- "It fills the plane with light": its pixels
 abbrev pub filled : Frame → ℕ → List ℕ → List ℕ

@@ -5,12 +5,12 @@ use refusals::Frame;
 ghost use mathlib.Core.Path.{_≡_};
 ghost use mathlib.Core.Bool.{false};
 ghost use Prim.Native.Nat.{_+_, _*_, _<_, _≤_};
-ghost use lib.ListN.{length};
+ghost use lib.ListN.{length, getD};
 ghost use Rattle.refusals.specs.Pixels.{badFrame};
 ghost use Rattle.tables.specs.Table.{badEdge, badBorder};
-ghost use Rattle.painter.specs.Picture.{runFilled, repainted, blockPixel, filled};
+ghost use Rattle.painter.specs.Picture.{runWritten, repainted, blockPixel, filled};
 ghost use Rattle.painter.specs.Tag.{sideOf, cellAt, turnedCell, isLight, showsLight, sizeOf, drawn};
-ghost use Rattle.painter.specs.Part.{cellPixel, partPixel};
+ghost use Rattle.painter.specs.Part.{RowOf, darkLine, rowLine};
 ghost use Rattle.painter.specs.Corners.{halfBefore, printQuad};
 ghost use Rattle.painter.specs.Printable.{badStyle, endsLate, badPrint, Printable};
 
@@ -46,33 +46,26 @@ fn size_of(edge: u8, border: u8, print: Print) -> usize
 }
 
 // One shade for `count` bytes from `start` on.
-fn fill_run(plane: &mut [u8], start: usize, count: usize, shade: u8)
-    requires { ⌜ start + count ≤ length (now plane) ⌝ }
-    ensures { λ r. ⌜ now (plane .exit) ≡ runFilled start count shade (now (plane .entry)) ⌝ }
+fn fill_run(bytes: &mut [u8], start: usize, count: usize, shade: u8)
+    requires { ⌜ start + count ≤ length (now bytes) ⌝ }
+    ensures { λ r. ⌜ now (bytes .exit) ≡ runWritten start count (λ i. shade) (now (bytes .entry)) ⌝ }
 {
     let mut i = 0;
     while i < count {
-        plane[start + i] = shade;
+        bytes[start + i] = shade;
         i += 1;
     }
 }
 
-// One shade for a block of pixels.
-fn fill_block(
-    plane: &mut [u8],
-    frame: Frame,
-    x: usize,
-    y: usize,
-    wide: usize,
-    high: usize,
-    shade: u8,
-)
-    requires { ⌜ (badFrame (length (now plane)) frame ≡ false) × (x + wide ≤ frame .width) × (y + high ≤ frame .height) ⌝ }
-    ensures { λ r. ⌜ now (plane .exit) ≡ repainted frame (blockPixel x y wide high shade) (now (plane .entry)) ⌝ }
+// The line's bytes, from `start` on.
+fn copy_run(bytes: &mut [u8], start: usize, line: &[u8])
+    requires { ⌜ start + length (now line) ≤ length (now bytes) ⌝ }
+    ensures { λ r. ⌜ now (bytes .exit) ≡ runWritten start (length (now (line .entry))) (λ i. getD (now (line .entry)) i 0) (now (bytes .entry)) ⌝ }
 {
+    let wide = line.len();
     let mut i = 0;
-    while i < high {
-        fill_run(plane, refusals::place_of(frame, x, y + i), wide, shade);
+    while i < wide {
+        bytes[start + i] = line[i];
         i += 1;
     }
 }
@@ -82,7 +75,24 @@ pub fn fill(plane: &mut [u8], frame: Frame, light: u8)
     requires { ⌜ badFrame (length (now plane)) frame ≡ false ⌝ }
     ensures { λ r. ⌜ now (plane .exit) ≡ filled frame light (now (plane .entry)) ⌝ }
 {
-    fill_block(plane, frame, 0, 0, frame.width, frame.height, light);
+    let high = frame.height;
+    let mut row = 0;
+    while row < high {
+        fill_run(plane, refusals::place_of(frame, 0, row), frame.width, light);
+        row += 1;
+    }
+}
+
+// A block of pixels, as wide as the line and each of its rows the line's bytes.
+fn copy_block(plane: &mut [u8], frame: Frame, x: usize, y: usize, high: usize, line: &[u8])
+    requires { ⌜ (badFrame (length (now plane)) frame ≡ false) × (x + length (now line) ≤ frame .width) × (y + high ≤ frame .height) ⌝ }
+    ensures { λ r. ⌜ now (plane .exit) ≡ repainted frame (blockPixel x y (length (now (line .entry))) high (λ i. getD (now (line .entry)) i 0)) (now (plane .entry)) ⌝ }
+{
+    let mut row = 0;
+    while row < high {
+        copy_run(plane, refusals::place_of(frame, x, y + row), line);
+        row += 1;
+    }
 }
 
 // The print's row and column of the cell that the picture has in `row` and `column`.
@@ -139,70 +149,70 @@ fn shows_light(edge: u8, border: u8, word: u64, print: Print, row: usize, column
     is_light(edge as usize, border as usize, word, cell)
 }
 
-// The cell in `row` and `column` of the tag, where it is light.
-fn draw_cell(
-    plane: &mut [u8],
-    frame: Frame,
-    edge: u8,
-    border: u8,
-    word: u64,
-    print: Print,
-    row: usize,
-    column: usize,
-)
-    requires { ⌜ Printable (length (now plane)) frame edge border word print × (row < sideOf edge border) × (column < sideOf edge border) ⌝ }
-    ensures { λ r. ⌜ now (plane .exit) ≡ repainted frame (cellPixel edge border word print row column) (now (plane .entry)) ⌝ }
+// The light modules of a row of cells, on a line that is dark.
+fn light_modules(line: &mut [u8], edge: u8, border: u8, word: u64, print: Print, row: usize)
+    requires { ⌜ RowOf edge border print row × (now line ≡ darkLine edge border print) ⌝ }
+    ensures { λ r. ⌜ now (line .exit) ≡ rowLine edge border word print row ⌝ }
 {
     let cell = print.cell;
-    if shows_light(edge, border, word, print, row, column) {
-        let x = print.x + column * cell;
-        let y = print.y + row * cell;
-        fill_block(plane, frame, x, y, cell, cell, print.light);
+    let end = border as usize + edge as usize;
+    let mut column = border as usize;
+    while column < end {
+        let start = column * cell;
+        let light = shows_light(edge, border, word, print, row, column);
+        column += 1;
+        if light {
+            fill_run(line, start, cell, print.light);
+        }
     }
 }
 
-// The light cells of one row of the tag.
-fn draw_row(
+// A line of the tag's pixels through a row of cells. The border is dark: only modules are tested.
+fn row_line(line: &mut [u8], edge: u8, border: u8, word: u64, print: Print, row: usize)
+    requires { ⌜ RowOf edge border print row × (length (now line) ≡ sizeOf edge border print) ⌝ }
+    ensures { λ r. ⌜ now (line .exit) ≡ rowLine edge border word print row ⌝ }
+{
+    let first = border as usize;
+    fill_run(line, 0, line.len(), print.dark);
+    if first <= row {
+        if row < first + edge as usize {
+            light_modules(line, edge, border, word, print, row);
+        }
+    }
+}
+
+// The tag, one row of cells after another: its line of pixels is worked out once, and copied to each row of pixels.
+fn draw_rows(
     plane: &mut [u8],
     frame: Frame,
     edge: u8,
     border: u8,
     word: u64,
     print: Print,
-    row: usize,
+    line: &mut [u8],
 )
-    requires { ⌜ Printable (length (now plane)) frame edge border word print × (row < sideOf edge border) ⌝ }
-    ensures { λ r. ⌜ now (plane .exit) ≡ repainted frame (partPixel edge border word print (print .y + row * print .cell) (sizeOf edge border print) (print .cell)) (now (plane .entry)) ⌝ }
+    requires { ⌜ Printable (length (now plane)) frame edge border word print × (length (now line) ≡ sizeOf edge border print) ⌝ }
+    ensures { λ r. ⌜ now (plane .exit) ≡ drawn frame edge border word print (now (plane .entry)) ⌝ }
 {
-    let side = side_of(edge, border);
-    let mut column = 0;
-    while column < side {
-        draw_cell(plane, frame, edge, border, word, print, row, column);
-        column += 1;
-    }
-}
-
-// The light cells of all rows.
-fn draw_rows(plane: &mut [u8], frame: Frame, edge: u8, border: u8, word: u64, print: Print)
-    requires { ⌜ Printable (length (now plane)) frame edge border word print ⌝ }
-    ensures { λ r. ⌜ now (plane .exit) ≡ repainted frame (partPixel edge border word print (print .y) (sizeOf edge border print) (sizeOf edge border print)) (now (plane .entry)) ⌝ }
-{
+    let y = print.y;
+    let cell = print.cell;
     let side = side_of(edge, border);
     let mut row = 0;
     while row < side {
-        draw_row(plane, frame, edge, border, word, print, row);
+        row_line(line, edge, border, word, print, row);
+        copy_block(plane, frame, print.x, y + row * cell, cell, line);
         row += 1;
     }
 }
 
-// The tag: all of it dark, then its light cells. All other pixels stay as they are.
+// The tag. All other pixels stay as they are. A line of it has at most 16 cells of 64 pixels.
 pub fn draw_tag(plane: &mut [u8], frame: Frame, edge: u8, border: u8, word: u64, print: Print)
     requires { ⌜ Printable (length (now plane)) frame edge border word print ⌝ }
     ensures { λ r. ⌜ now (plane .exit) ≡ drawn frame edge border word print (now (plane .entry)) ⌝ }
 {
     let size = size_of(edge, border, print);
-    fill_block(plane, frame, print.x, print.y, size, size, print.dark);
-    draw_rows(plane, frame, edge, border, word, print);
+    let mut line = [0u8; 1024];
+    draw_rows(plane, frame, edge, border, word, print, &mut line[..size]);
 }
 
 // n - 1/2

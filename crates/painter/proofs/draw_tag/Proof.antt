@@ -1,59 +1,46 @@
--- Light cells on the dark square are the tag. Assumes nothing.
-use mathlib.Core.Path.{_≡_, ap, _∙_}
-use Prim.Native.Nat.{ℕ}
+-- A line of the tag's pixels fits the room. Assumes nothing.
+use mathlib.Core.Path.{_≡_, sym, _∙_}
+use mathlib.Core.List.{List}
+use Prim.Native.Nat.{ℕ, _≤_}
 use native.Mathlib.Omega.{arith}
-use lib.ListN.{length}
-use Rattle.refusals.specs.Pixels.{badFrame}
-use Rattle.painter.specs.Picture.{repainted, blockPixel}
-use Rattle.painter.specs.Tag.{sizeOf}
-use Rattle.painter.proofs.Picture.{length-repainted}
-use Rattle.painter.proofs.Part.{tag-drawn}
-use Rattle.painter.proofs.Printable.{good-print}
 use borrow.Author.Needs.{needs}
+use lib.ListN.{length, take, replicate, length-replicate}
+use lib.Seq.{length-take-le}
+use Rattle.painter.proofs.Printable.{good-print, size-le}
 use Rattle.painter.proofs.draw_tag.Statement.{statement}
 use Rattle.painter.proofs.draw_tag.Tie as tie
 
 size-of-requires : tie.Need-size-of-requires
 size-of-requires c κs = let g = good-print (c .before .pre) in omega (arith, g .placed .right, g .framed .sides .width-le)
 
-fill-block-requires : tie.Need-fill-block-requires
-fill-block-requires c κs =
-    let z = c .before .size-of .ensures in
-    let s = c .before .before .before in
+-- the tag's width
+fits : (c : tie.After-size-of) → c .size-of .result ≤ 1024
+fits c =
+    let s = c .before .before in
+    let a = s .args in
     let g = good-print (s .pre) in
-    (s .pre .planes, omega (arith, z, g .placed .right), omega (arith, z, g .placed .low))
+    omega (arith, c .size-of .ensures, size-le (a .edge) (a .border) (a .print) (g .edges .most) (g .borders .most) (g .style .small))
 
--- the square is dark
-dark : (c : tie.After-fill-block) → let a = c .before .before .before .before .args in
-    let size = sizeOf (a .edge) (a .border) (a .print) in
-    c .fill-block .last .0 ≡ repainted (a .frame) (blockPixel (a .print .x) (a .print .y) size size (a .print .dark)) (a .plane .now)
-dark c =
-    let z = c .before .before in
-    let a = z .before .before .args in
-    c .fill-block .ensures ∙ ap (λ (n : ℕ). repainted (a .frame) (blockPixel (a .print .x) (a .print .y) n n (a .print .dark)) (a .plane .now)) (z .size-of .ensures)
+abbrev room : List ℕ
+room = replicate 1024 0
+
+-- the part of it that is lent
+part : (n : ℕ) → n ≤ 1024 → length (take n room) ≡ n
+part n h = length-take-le n room (rw (length-replicate {A = ℕ} 1024 0) h)
+
+slice-aggregate-draw-rows : tie.Need-slice-aggregate-draw-rows
+slice-aggregate-draw-rows c = let z = c .before .before in sym (part (z .size-of .result) (fits z))
 
 draw-rows-requires : tie.Need-draw-rows-requires
-draw-rows-requires c κs =
-    let f = c .before .before .before in
-    let s = f .before .before .before .before in
-    let a = s .args in
-    let size = sizeOf (a .edge) (a .border) (a .print) in
-    let long = ap length (dark f) ∙ length-repainted (a .frame) (blockPixel (a .print .x) (a .print .y) size size (a .print .dark)) (a .plane .now) in
-    record { planes = ap (λ (n : ℕ). badFrame n (a .frame)) long ∙ s .pre .planes; edges = s .pre .edges; borders = s .pre .borders; prints = s .pre .prints }
-
-returns : tie.Need-returns
-returns c =
-    let d = c .before .before in
-    let f = d .before .before .before .before in
-    let a = f .before .before .before .before .args in
-    tag-drawn (a .frame) (a .edge) (a .border) (a .word) (a .print) (a .plane .now) (f .fill-block .last .0) (d .draw-rows .last .0) (dark f) (d .draw-rows .ensures)
+draw-rows-requires c κs = let z = c .before .before in (z .before .before .pre, part (z .size-of .result) (fits z) ∙ z .size-of .ensures)
 
 pub draw-tag-spec : {M : Type 1} → statement M
 draw-tag-spec =
     tie.close
     (tie.spec
     size-of-requires
-    fill-block-requires
+    (λ c. fits (c .before))  -- array-borrow-prefix-line
+    slice-aggregate-draw-rows
     draw-rows-requires
     (λ c. search needs)  -- same-length
-    returns)
+    (λ c. search needs))  -- returns
