@@ -21,7 +21,8 @@ readSheet frame family codes position s shown written (accepted done) = decodeQu
 readSheet frame family codes position s shown written (refused n) = refused n
 
 -- a sheet is painted and start s of one of its quads read, with this answer, and with plane and quads left so
-pub record SheetThenRead (plane : List ℕ) (frame : Frame) (family : Family) (codes : List ℕ) (grid : Grid) (print : Print) (quads : List Float) (position s : ℕ) (answer : Outcome Tag) (left : List ℕ) (written : List Float) : Type 0 where
+pub record SheetThenRead (plane : List ℕ) (frame : Frame) (family : Family) (codes : List ℕ) (grid : Grid) (print : Print)
+    (quads : List Float) (position s : ℕ) (answer : Outcome Tag) (left : List ℕ) (written : List Float) : Type 0 where
   -- plane and quads are the painter's, whether it paints or refuses
   pub shown : left ≡ paintSheet plane frame family codes grid print quads .plane
   pub quads-written : written ≡ paintSheet plane frame family codes grid print quads .quads

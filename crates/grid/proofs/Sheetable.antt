@@ -21,7 +21,8 @@ use Rattle.painter.specs.declared.Print.{Print}
 use Rattle.painter.proofs.Printable.{good-style}
 use Rattle.grid.specs.Sheet.{tagSize, stepOf}
 use Rattle.grid.specs.Quads.{tagCount, positionRow, positionColumn, positionPrint}
-use Rattle.grid.specs.Sheetable.{lineSize, badCounts, badEnd, badGrid, Sheetable, SmallGrid}
+use Rattle.grid.specs.Refused.{lineSize, badCounts, badEnd, badGrid}
+use Rattle.grid.specs.Sheetable.{Sheetable, SmallGrid}
 use Rattle.grid.specs.declared.Grid.{Grid}
 use Rattle.grid.proofs.Line.{tag-ends}
 use Rattle.grid.proofs.Place.{row-lt, column-lt}

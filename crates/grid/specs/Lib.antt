@@ -1,3 +1,4 @@
 pub mod Sheet
 pub mod Quads
+pub mod Refused
 pub mod Sheetable

@@ -1,6 +1,6 @@
 -- A whole sheet, from ticket 3 of 02: "Given rows, columns, cell, gap in cells, one turn for all tags, light, dark and the grid's upper left
--- pixel, the painter draws a grid of a table's codes on one plane." Grid rows are counted from the top, columns from the left, both from 0.
--- Assumes nothing.
+-- pixel, the painter draws a grid of a table's codes on one plane." The grid's upper left pixel is (print .x, print .y); its rows are counted
+-- from the top, its columns from the left, both from 0. Assumes nothing.
 use Prim.Native.Nat.{ℕ, _+_, _-_, _*_, _/_, _%_}
 use mathlib.Core.Bool.{Bool, _&&_, cond}
 use mathlib.Core.List.{List}

@@ -12,7 +12,8 @@ ghost use Rattle.tables.specs.Table.{badEdge, badBorder};
 ghost use Rattle.painter.specs.Printable.{badStyle};
 ghost use Rattle.grid.specs.Sheet.{sheet};
 ghost use Rattle.grid.specs.Quads.{tagCount, positionPrint, sheetQuads};
-ghost use Rattle.grid.specs.Sheetable.{lineSize, badCounts, badGrid, badOutput, Sheetable, SmallGrid};
+ghost use Rattle.grid.specs.Refused.{lineSize, badCounts, badGrid, badOutput};
+ghost use Rattle.grid.specs.Sheetable.{Sheetable, SmallGrid};
 
 // The tags in a column of the grid and in a row of it, and the cells of the gap between two of them.
 pub struct Grid {

@@ -2,7 +2,7 @@
 // accepted. The header is include/muosleap.h.
 // Here are the exported names and the structs of C's numbers; the crates c_tags, c_paint and c_picture have the rest.
 // Codes: words, codes and levels. Quads: quads, lists of quads. Painting: the painter. Picture: blur, response, threshold, clusters,
-// centres. Structs: what the modules share, not exported.
+// centres. Structs: those that readings and paintings take, not exported.
 pub mod codes;
 pub mod painting;
 pub mod picture;

@@ -1,4 +1,4 @@
-// Structs of C's numbers that more than one module makes.
+// The structs of C's numbers that readings and paintings take, each made in one place.
 use grid::Grid;
 use painter::Print;
 use refusals::Frame;

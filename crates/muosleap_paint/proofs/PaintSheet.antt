@@ -17,23 +17,27 @@ use Rattle.painter.specs.Printable.{badStyle}
 use Rattle.painter.specs.declared.Print.{Print}
 use Rattle.grid.specs.Sheet.{sheet}
 use Rattle.grid.specs.Quads.{sheetQuads}
-use Rattle.grid.specs.Sheetable.{badGrid, badOutput, Sheetable}
+use Rattle.grid.specs.Refused.{badGrid, badOutput}
+use Rattle.grid.specs.Sheetable.{Sheetable}
 use Rattle.grid.specs.declared.Grid.{Grid}
 use Rattle.muosleap_paint.specs.PaintSheet.{SheetPainting, paintingOf, paintSheet, paintSheetIn}
 
--- a call: its plane and its output, its tests for 1, 6, 14, 17 and 16, and what it comes to where it passes them
-record Call : Type 0 where
-  plane : List ℕ
-  quads : List Float
-  done : SheetPainting
+-- a call: its plane, its output, and what it comes to where it passes all tests
+pub record Call : Type 0 where
+  pub plane : List ℕ
+  pub quads : List Float
+  pub done : SheetPainting
 
 module _ (c : Call) where
   abbrev refusing : ℕ → SheetPainting
   refusing n = paintingOf (refused n) (c .plane) (c .quads)
 
-  abbrev tested : (one six fourteen seventeen sixteen : Bool) → SheetPainting
-  tested one six fourteen seventeen sixteen =
-      cond one (refusing 1) (cond six (refusing 6) (cond fourteen (refusing 14) (cond seventeen (refusing 17) (cond sixteen (refusing 16) (c .done)))))
+  -- by its tests for 6, 14, 17 and 16, which come behind 1
+  abbrev pub past-1 : (six fourteen seventeen sixteen : Bool) → SheetPainting
+  past-1 six fourteen seventeen sixteen = cond six (refusing 6) (cond fourteen (refusing 14) (cond seventeen (refusing 17) (cond sixteen (refusing 16) (c .done))))
+
+  abbrev pub tested : (one six fourteen seventeen sixteen : Bool) → SheetPainting
+  tested one six fourteen seventeen sixteen = cond one (refusing 1) (past-1 six fourteen seventeen sixteen)
 
   -- an accepted call passed all five
   passes : (one six fourteen seventeen sixteen : Bool) → tested one six fourteen seventeen sixteen .answer ≡ accepted (record {})
@@ -46,10 +50,10 @@ module _ (c : Call) where
   passes false false false false false e = (refl, refl, refl, refl, refl)
 
 module _ (plane : List ℕ) (frame : Frame) (family : Family) (codes : List ℕ) (grid : Grid) (print : Print) (quads : List Float) where
-  abbrev done : SheetPainting
+  abbrev pub done : SheetPainting
   done = paintingOf (accepted (record {})) (sheet frame family codes grid print plane) (inFront (sheetQuads family grid print) quads)
 
-  abbrev call : Call
+  abbrev pub call : Call
   call = record { plane = plane; quads = quads; done = done }
 
   is-tested : paintSheet plane frame family codes grid print quads

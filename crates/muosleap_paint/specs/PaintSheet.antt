@@ -17,7 +17,7 @@ use Rattle.painter.specs.Printable.{badStyle}
 use Rattle.painter.specs.declared.Print.{Print}
 use Rattle.grid.specs.Sheet.{sheet}
 use Rattle.grid.specs.Quads.{sheetQuads}
-use Rattle.grid.specs.Sheetable.{badGrid, badOutput}
+use Rattle.grid.specs.Refused.{badGrid, badOutput}
 use Rattle.grid.specs.declared.Grid.{Grid}
 use Rattle.muosleap_paint.specs.declared.sheet.Sheet.{Sheet}
 use Rattle.muosleap_paint.specs.declared.sheet.Sheet.the-variants.{Painted, Refused}

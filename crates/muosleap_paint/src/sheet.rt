@@ -12,9 +12,10 @@ pub enum Sheet {
     Refused(u8),
 }
 
-// The picture filled with light and a grid of the table's codes drawn into it, position 0 lower left; each tag's quad, from the
-// print's first corner clockwise, as eight numbers in the order of positions. Refusal 1 for the plane, 6 for the table, 14 for the
-// cell, the turn and the shades, 17 for the grid, 16 for the output. A refused call leaves plane and output as they were.
+// The picture filled with light and a grid of the table's codes drawn into it, position 0 lower left, filler left as it is; each
+// tag's quad, from the print's first corner clockwise, as eight numbers in the order of positions, output beyond them left as it is.
+// Refusal 1 for the plane, 6 for the table, 14 for the cell, the turn and the shades, 17 for the grid, 16 for the output. A refused
+// call leaves plane and output as they were.
 pub fn paint_sheet(
     plane: &mut [u8],
     frame: Frame,

@@ -14,7 +14,7 @@ ghost use Rattle.painter.specs.Part.{RowOf, darkLine, rowLine};
 ghost use Rattle.painter.specs.Corners.{halfBefore, printQuad};
 ghost use Rattle.painter.specs.Printable.{badStyle, endsLate, badPrint, Printable};
 
-// What a painting takes: the tag's upper left pixel, the pixels of a cell's side, the turn and the two shades.
+// What a painting takes: the upper left pixel of the tag, or of a sheet's grid, the pixels of a cell's side, the turn and the two shades.
 pub struct Print {
     pub x: usize,
     pub y: usize,

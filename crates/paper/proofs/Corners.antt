@@ -7,7 +7,7 @@ use native.Mathlib.Nat.{div-add-mod', mul-comm}
 use native.Mathlib.Omega.{arith}
 use borrow.Author.Tests.{lt-leb, lt-ltb}
 use lib.Arith.{digits-div, digits-mod}
-use lib.Dec.{leb, ltb, eqb}
+use lib.Dec.{leb, eqb}
 use lib.ListN.{length}
 use Rattle.lists.proofs.Bools.{or-neither}
 use Rattle.lists.proofs.Grid.{square-row, square-column}

@@ -11,7 +11,6 @@ use lib.ListN.{length, getD}
 use Rattle.lists.specs.Tab.{tabulate}
 use Rattle.lists.proofs.Rows.{tabulate-ext}
 use Rattle.lists.proofs.Bools.{and-left, and-right}
-use Rattle.lists.specs.Front.{inFront}
 use Rattle.refusals.specs.Outcome.{Outcome, accepted, refused, Done}
 use Rattle.refusals.specs.Pixels.{packedFrame, badFrame, placeOf, levelAt}
 use Rattle.refusals.specs.declared.Frame.{Frame}
@@ -28,8 +27,7 @@ use Rattle.painter.specs.Printable.{badPrint, badStyle}
 use Rattle.painter.specs.declared.Print.{Print}
 use Rattle.painter.proofs.Picture.{length-repainted, pixel-repainted, filler-repainted}
 use Rattle.grid.specs.Sheet.{sheetPixel}
-use Rattle.grid.specs.Quads.{sheetQuads}
-use Rattle.grid.specs.Sheetable.{badGrid, badOutput}
+use Rattle.grid.specs.Refused.{badGrid, badOutput}
 use Rattle.grid.specs.declared.Grid.{Grid}
 use Rattle.reader.specs.Reading.{column, row, Tag, reading}
 use Rattle.reader.proofs.Depends.{Agree, reading-depends}
@@ -37,6 +35,7 @@ use Rattle.listing.specs.Listing.{badList, Listing, listingOf, listing}
 use Rattle.listing.proofs.Listing.{listing-depends}
 use Rattle.muosleap_paint.specs.PaintTag.{Painting, unpainted, paintTag, paintTagIn}
 use Rattle.muosleap_paint.specs.PaintSheet.{SheetPainting, paintingOf, paintSheet, paintSheetIn}
+use Rattle.muosleap_paint.proofs.PaintSheet.{Call, past-1, tested, call}
 use Rattle.muosleap.specs.Quad.{decodeQuad, decodeQuadIn}
 use Rattle.muosleap.specs.Quads.{decodeQuads, decodeQuadsIn}
 use Rattle.paper.specs.Padded.{withoutFiller, packed, LeavesFiller, ReadsAlike, PaintsAlike, Padded}
@@ -219,15 +218,10 @@ module _ (plane : List ℕ) (frame : Frame) (grid : Grid) (print : Print) (quads
     abbrev pixel : ℕ → ℕ → ℕ → ℕ
     pixel x y old = sheetPixel family codes grid print x y (print .light)
 
-    -- 6, 14, 17 and 16 are tested alike, and refused paintings leave the plane
-    abbrev sheet-behind : List ℕ → Frame → (six fourteen seventeen sixteen : Bool) → SheetPainting
-    sheet-behind plane frame six fourteen seventeen sixteen =
-        cond six (paintingOf (refused 6) plane quads)
-        (cond fourteen (paintingOf (refused 14) plane quads)
-        (cond seventeen (paintingOf (refused 17) plane quads)
-        (cond sixteen (paintingOf (refused 16) plane quads)
-        (paintingOf (accepted (record {})) (repainted frame pixel plane) (inFront (sheetQuads family grid print) quads)))))
+    abbrev sheet-call : List ℕ → Frame → Call
+    sheet-call plane frame = call plane frame family codes grid print quads
 
+    -- 6, 14, 17 and 16 are tested alike, and refused paintings leave the plane
     sheet-lines : badFrame (length plane) frame ≡ false
         → Both told-of sheet-of frame (paintSheet plane frame family codes grid print quads) (paintSheet (withoutFiller frame plane) (packed frame) family codes grid print quads)
     unfolding paintSheet badGrid
@@ -236,7 +230,7 @@ module _ (plane : List ℕ) (frame : Frame) (grid : Grid) (print : Print) (quads
         (go (badTable family codes) (badStyle print) (badGrid frame family (length codes) grid print) (badOutput grid (length quads)))
       where
         go : (six fourteen seventeen sixteen : Bool)
-            → Both told-of sheet-of frame (sheet-behind plane frame six fourteen seventeen sixteen) (sheet-behind (withoutFiller frame plane) (packed frame) six fourteen seventeen sixteen)
+            → Both told-of sheet-of frame (past-1 (sheet-call plane frame) six fourteen seventeen sixteen) (past-1 (sheet-call (withoutFiller frame plane) (packed frame)) six fourteen seventeen sixteen)
         go true fourteen seventeen sixteen = (refl, refl)
         go false true seventeen sixteen = (refl, refl)
         go false false true sixteen = (refl, refl)
@@ -249,7 +243,7 @@ module _ (plane : List ℕ) (frame : Frame) (grid : Grid) (print : Print) (quads
         go (badFrame (length plane) frame) (badTable family codes) (badStyle print) (badGrid frame family (length codes) grid print) (badOutput grid (length quads))
       where
         go : (one six fourteen seventeen sixteen : Bool)
-            → LeavesFiller frame plane (cond one (paintingOf (refused 1) plane quads) (sheet-behind plane frame six fourteen seventeen sixteen) .plane)
+            → LeavesFiller frame plane (tested (sheet-call plane frame) one six fourteen seventeen sixteen .plane)
         go true six fourteen seventeen sixteen = leaves-all frame plane
         go false true fourteen seventeen sixteen = leaves-all frame plane
         go false false true seventeen sixteen = leaves-all frame plane

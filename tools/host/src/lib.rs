@@ -7,7 +7,7 @@
 //! - [`Picture`]: an 8-bit picture, with or without filler behind its lines.
 //! - [`detector`]: words, levels and quads, by [`Family`] or by a [`Table`] of your own; and how a tag's [wear](detector#wear) shows.
 //! - [`image_util`]: blur, response, threshold, clusters and their centres.
-//! - [`painter`]: paints a tag, or a sheet of tags. [`sheet`]: the squares that an aprilgrid board has beside its tags.
+//! - [`painter`]: paints a tag, or a sheet of tags. [`board`]: the squares that an aprilgrid board has beside its tags.
 //! - [`files`]: pictures as PGM and PNG.
 //! - [`c`]: the C interface as it crosses, for hosts that keep their own buffers.
 //!
@@ -30,6 +30,7 @@
 #![warn(missing_docs)]
 
 #[allow(unsafe_code)]
+pub mod board;
 pub mod c;
 pub mod detector;
 pub mod files;
@@ -38,7 +39,6 @@ pub mod painter;
 mod picture;
 mod points;
 mod refusal;
-pub mod sheet;
 mod tables;
 
 pub use detector::{Found, Tag};

@@ -4,7 +4,7 @@
 mod numbers;
 
 use muosleap::image_util::{Saddles, kernel, to_unit};
-use muosleap::sheet::corner_squares;
+use muosleap::board::corner_squares;
 use muosleap::{FAMILIES, Family, Grid, Picture, Print, Quad, Refusal, Shape, Table, c};
 use numbers::Numbers;
 use std::collections::BTreeSet;

@@ -3,7 +3,7 @@ use mathlib.Core.Path.{_≡_, sym, ap, _∙_}
 use Rattle.tables.proofs.Table.{good-edge, good-border}
 use Rattle.painter.specs.Printable.{endsLate}
 use Rattle.painter.proofs.Printable.{good-style}
-use Rattle.grid.specs.Sheetable.{lineSize, badGrid}
+use Rattle.grid.specs.Refused.{lineSize, badGrid}
 use Rattle.grid.proofs.Sheetable.{Counts, good-counts}
 use borrow.Author.Needs.{needs}
 use Rattle.grid.proofs.bad_grid.Statement.{statement}
@@ -20,14 +20,18 @@ line-size-requires : tie.Need-line-size-requires
 line-size-requires c κs =
     let s = c .before .before in
     let n = counts c in
-    (good-edge (s .args .family .edge) (s .pre .0) .most, good-border (s .args .family .border) (s .pre .1) .most, good-style (s .args .print) (s .pre .2) .small, n .gaps .most, n .columns .least, n .columns .most)
+    let edge = good-edge (s .args .family .edge) (s .pre .0) in
+    let border = good-border (s .args .family .border) (s .pre .1) in
+    (edge .most, border .most, good-style (s .args .print) (s .pre .2) .small, n .gaps .most, n .columns .least, n .columns .most)
 
 line-size-requires-2 : tie.Need-line-size-requires-2
 line-size-requires-2 c κs =
     let e = c .before .before .before in
     let s = e .before .before in
     let n = counts e in
-    (good-edge (s .args .family .edge) (s .pre .0) .most, good-border (s .args .family .border) (s .pre .1) .most, good-style (s .args .print) (s .pre .2) .small, n .gaps .most, n .rows .least, n .rows .most)
+    let edge = good-edge (s .args .family .edge) (s .pre .0) in
+    let border = good-border (s .args .family .border) (s .pre .1) in
+    (edge .most, border .most, good-style (s .args .print) (s .pre .2) .small, n .gaps .most, n .rows .least, n .rows .most)
 
 -- what the test of the width says
 late : (c : tie.After-ends-late) → let a = c .before .before .before .before .args in

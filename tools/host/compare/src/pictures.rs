@@ -1,6 +1,6 @@
 //! Pictures like a camera's: a sheet of tags with noise.
 
-use muosleap::sheet::corner_squares;
+use muosleap::board::corner_squares;
 use muosleap::{Family, Grid, Picture, Print, Quad, Shape};
 use oracle::out::Numbers;
 

@@ -10,7 +10,8 @@ use Rattle.refusals.specs.Pixels.{badFrame}
 use Rattle.tables.specs.Table.{badTable}
 use Rattle.tables.proofs.Table.{table-edge, table-border}
 use Rattle.painter.specs.Printable.{badStyle}
-use Rattle.grid.specs.Sheetable.{badGrid, badOutput, Sheetable}
+use Rattle.grid.specs.Refused.{badGrid, badOutput}
+use Rattle.grid.specs.Sheetable.{Sheetable}
 use Rattle.grid.proofs.Sheetable.{good-grid}
 use Rattle.muosleap_paint.specs.PaintSheet.{paintingOf, paintSheet}
 use Rattle.muosleap_paint.proofs.PaintSheet.{sheet-done}

@@ -2,7 +2,7 @@
 
 use crate::options::Options;
 use crate::{FAMILY, SIDE};
-use muosleap::sheet::corner_squares;
+use muosleap::board::corner_squares;
 use muosleap::{Grid, Picture, Point, Print, Quad, Refusal, Shape, Table};
 use std::ops::RangeInclusive;
 

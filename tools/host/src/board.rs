@@ -7,7 +7,7 @@ use crate::{Picture, Point, Quad};
 /// the corner of a square and is a saddle point. No pixel of a tag changes. What does not fit into the picture is left out.
 ///
 /// ```
-/// use muosleap::{Family, Grid, Picture, Print, sheet::corner_squares};
+/// use muosleap::{Family, Grid, Picture, Print, board::corner_squares};
 ///
 /// let (family, grid) = (Family::T16H5, Grid { rows: 2, columns: 2, gap: 2 });
 /// let print = Print { x: 6, y: 6, cell: 3, turn: 0, light: 210, dark: 30 };
