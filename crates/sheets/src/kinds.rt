@@ -3,6 +3,7 @@ use crate::codes;
 use crate::prints::Sheet;
 use crate::prints::four_readings;
 use painter::Print;
+use refusals::packed_frame;
 use vectors::Tally;
 use vectors::product;
 
@@ -69,6 +70,7 @@ pub fn misprint(p: usize) -> Wrong {
 pub fn sheet_of(number: u8, id: usize, cell: usize, turn: usize, wrong: Wrong) -> Sheet {
     let family = codes::family(number);
     let side = family.edge as usize + 2 * (family.border as usize);
+    let wide = product(side, cell, 640) + 1;
     Sheet {
         number,
         family,
@@ -83,7 +85,7 @@ pub fn sheet_of(number: u8, id: usize, cell: usize, turn: usize, wrong: Wrong) -
             light: 200,
             dark: 150,
         },
-        wide: product(side, cell, 640) + 1,
+        frame: packed_frame(wide, wide),
     }
 }
 
@@ -116,7 +118,8 @@ fn moved(sheet: Sheet, p: usize) -> Sheet {
     print.x = p % 2;
     print.y = p / 2 % 2;
     new.print = print;
-    new.wide = vectors::least(sheet.wide, 640) + 1;
+    let wide = vectors::least(sheet.frame.width, 640) + 1;
+    new.frame = packed_frame(wide, wide);
     new
 }
 

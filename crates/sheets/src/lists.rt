@@ -43,7 +43,7 @@ fn rows_own(rows: &[u64], corners: &[f32], count: usize, sheet: Sheet, quad: Qua
 }
 
 // Reads a list: by the family's number, or with a table of our own lent.
-fn read_list(
+pub fn read_list(
     plane: &[u8],
     table: &[u64],
     sheet: Sheet,
@@ -51,7 +51,7 @@ fn read_list(
     rows: &mut [u64],
     corners: &mut [f32],
 ) -> Listed {
-    let frame = refusals::packed_frame(sheet.wide, sheet.wide);
+    let frame = sheet.frame;
     if sheet.number < 5 {
         return try_decode_quads_in(plane, frame, sheet.number, quads, rows, corners);
     }
@@ -108,7 +108,8 @@ fn painted_lists(plane: &mut [u8], table: &[u64], sheet: Sheet) {
 }
 
 fn sheet_lists(plane: &mut [u8], table: &[u64], sheet: Sheet) {
-    let n = product(sheet.wide, sheet.wide, plane.len());
+    let frame = sheet.frame;
+    let n = product(frame.width, frame.height, plane.len());
     painted_lists(&mut plane[0..n], table, sheet);
 }
 

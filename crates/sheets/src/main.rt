@@ -1,7 +1,11 @@
 // Paints tags and reads them: every code of every family and of two tables of our own, its four turns and four starts, several cells,
-// misprints, the corners of a plane, and lists of quads. Each line counts the readings that are as demand 3 has them. Tables are lent
+// misprints, the corners of a plane, and lists of quads; then whole sheets of each table, every tag of them alone and in lists, and
+// sheets that the painter refuses. Each line counts what is as demand 3 has it, and as ticket 3 of 02 has the sheets. Tables are lent
 // to the readers, and families are read by their numbers too.
+mod boards;
 mod codes;
+mod grids;
+mod kept;
 mod kinds;
 mod lists;
 mod prints;
@@ -49,6 +53,7 @@ fn table(plane: &mut [u8], number: u8) {
     codes::load(number, &mut room);
     sheets(plane, &room[0..n], number);
     lists::all(plane, &room[0..n], number);
+    grids::all(plane, &room[0..n], number);
 }
 
 fn named(plane: &mut [u8], number: u8, name: &[u8]) {

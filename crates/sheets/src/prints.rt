@@ -8,6 +8,7 @@ use painter::Print;
 use points::Quad;
 use points::answer_corners;
 use points::rotate_left;
+use refusals::Frame;
 use tables::Family;
 use vectors::Tally;
 use vectors::answers::Answer;
@@ -17,7 +18,7 @@ use vectors::answers::same;
 use vectors::product;
 
 // What is painted: the table by its number and as it is lent, the code by its position, the word for it, how many of the code's modules
-// are misprinted in it, the print, and the side of the plane in pixels.
+// are misprinted in it, the print, and the plane's frame.
 pub struct Sheet {
     pub number: u8,
     pub family: Family,
@@ -25,7 +26,7 @@ pub struct Sheet {
     pub word: u64,
     pub misprinted: u8,
     pub print: Print,
-    pub wide: usize,
+    pub frame: Frame,
 }
 
 // What a start of the painter's quad is to be read as: with as many differing modules as were misprinted.
@@ -40,7 +41,7 @@ pub fn own(sheet: Sheet, quad: Quad, start: u8) -> Answer {
 
 // Whether a start is read as demand 3 has it: with the table lent, and for a family by its number too.
 fn reads_own(plane: &[u8], codes: &[u64], sheet: Sheet, quad: Quad, start: u8) -> bool {
-    let frame = refusals::packed_frame(sheet.wide, sheet.wide);
+    let frame = sheet.frame;
     let turned = rotate_left(quad, start);
     let answer = own(sheet, quad, start);
     let lent = answer_of(try_decode_quad(plane, frame, sheet.family, codes, turned));
@@ -52,7 +53,7 @@ fn reads_own(plane: &[u8], codes: &[u64], sheet: Sheet, quad: Quad, start: u8) -
 }
 
 pub fn paint(plane: &mut [u8], sheet: Sheet) -> Painted {
-    let frame = refusals::packed_frame(sheet.wide, sheet.wide);
+    let frame = sheet.frame;
     if sheet.number < 5 {
         return paint_tag_in(plane, frame, sheet.number, sheet.word, sheet.print);
     }
@@ -66,7 +67,8 @@ pub fn paint(plane: &mut [u8], sheet: Sheet) -> Painted {
     )
 }
 
-fn four_starts(plane: &[u8], codes: &[u64], sheet: Sheet, quad: Quad, tally: Tally) -> Tally {
+// Counts the four starts of a quad.
+pub fn four_starts(plane: &[u8], codes: &[u64], sheet: Sheet, quad: Quad, tally: Tally) -> Tally {
     tally
         .count(reads_own(plane, codes, sheet, quad, 0), sheet.id)
         .count(reads_own(plane, codes, sheet, quad, 1), sheet.id)
@@ -83,6 +85,7 @@ fn paint_and_read(plane: &mut [u8], codes: &[u64], sheet: Sheet, tally: Tally) -
 
 // Paints a tag into the first bytes of `plane`, as many as the sheet's plane has, and counts its four starts.
 pub fn four_readings(plane: &mut [u8], codes: &[u64], sheet: Sheet, tally: Tally) -> Tally {
-    let n = product(sheet.wide, sheet.wide, plane.len());
+    let frame = sheet.frame;
+    let n = product(frame.width, frame.height, plane.len());
     paint_and_read(&mut plane[0..n], codes, sheet, tally)
 }
