@@ -41,15 +41,11 @@ fn number_of(answer: sheet::Sheet) -> u8 {
 }
 
 // Paints a sheet: by the family's number, or with a table of our own lent.
-pub fn paint(plane: &mut [u8], table: &[u64], board: Board, quads: &mut [f32]) -> u8 {
-    let grid = board.grid;
-    let tag = board.tag;
-    let frame = tag.frame;
-    let print = tag.print;
+pub fn paint(plane: &mut [u8], table: &[u64], grid: Grid, tag: Sheet, quads: &mut [f32]) -> u8 {
     if tag.number < 5 {
-        return number_of(paint_sheet_in(plane, frame, tag.number, grid, print, quads));
+        return number_of(paint_sheet_in(plane, tag.frame, tag.number, grid, tag.print, quads));
     }
-    number_of(paint_sheet(plane, frame, tag.family, table, grid, print, quads))
+    number_of(paint_sheet(plane, tag.frame, tag.family, table, grid, tag.print, quads))
 }
 
 // The tag at a position of the grid.
@@ -153,14 +149,19 @@ fn four_lists(plane: &[u8], table: &[u64], first: Sheet, quads: &[f32], tally: T
     one_list(plane, table, first, quads, 3, s2)
 }
 
-// Paints a sheet and counts the readings of its tags, alone and in lists, and whether the numbers behind the quads are left.
+// Counts the readings of all tags, alone and in lists.
+fn all_tags(plane: &[u8], table: &[u64], first: Sheet, quads: &[f32], tally: Tally) -> Tally {
+    let alone = all_alone(plane, table, first, quads, tally);
+    four_lists(plane, table, first, quads, alone)
+}
+
+// Paints a sheet, and counts the readings of its tags and whether the numbers behind the quads are left.
 pub fn readings(plane: &mut [u8], table: &[u64], board: Board, tally: Tally) -> Tally {
     let mut room = [9.0f32; 8200];
     let n = QUAD_SIZE * tags_of(board.grid);
-    if paint(plane, table, board, &mut room) != 0 {
+    if paint(plane, table, board.grid, board.tag, &mut room) != 0 {
         return tally.count(false, 0);
     }
-    let alone = all_alone(plane, table, board.tag, &room[0..n], tally);
-    let listed = four_lists(plane, table, board.tag, &room[0..n], alone);
-    listed.count(are_nines(&room[n..]), n)
+    let sum = tally.count(are_nines(&room[n..]), n);
+    all_tags(plane, table, board.tag, &room[0..n], sum)
 }

@@ -15,16 +15,21 @@ use vectors::least;
 use vectors::product;
 use vectors::report;
 use vectors::say;
-ghost use Prim.Native.Nat.{_≤_};
+ghost use Prim.Native.Nat.{_<_, _≤_};
 
 // The rows of the grids, and their columns. First those of every table, of which four have a side of 0 or 33 tags, and others more
-// tags than the table has codes.
-const ROWS: [usize; 9] = [0, 1, 33, 1, 32, 12, 1, 32, 1];
-
-const COLUMNS: [usize; 9] = [1, 0, 1, 33, 32, 12, 32, 1, 1];
-
-// Then three for each table. The largest are of all its codes, but of 580 where they are 587, which is a prime.
-const OWN_ROWS: [usize; 21] = [
+// tags than the table has codes. Then three for each table: the largest are of all its codes, but of 580 where they are 587, which is
+// a prime.
+const ROWS: [usize; 30] = [
+    0,
+    1,
+    33,
+    1,
+    32,
+    12,
+    1,
+    32,
+    1,
     5,
     1,
     30,
@@ -48,7 +53,16 @@ const OWN_ROWS: [usize; 21] = [
     8,
 ];
 
-const OWN_COLUMNS: [usize; 21] = [
+const COLUMNS: [usize; 30] = [
+    1,
+    0,
+    1,
+    33,
+    32,
+    12,
+    32,
+    1,
+    1,
     6,
     30,
     1,
@@ -77,21 +91,23 @@ const GAPS: [usize; 5] = [1, 16, 1, 16, 1];
 
 const CELLS: [usize; 5] = [1, 1, 2, 2, 3];
 
+// Where grid g of a table stands.
+fn place(number: u8, g: usize) -> usize
+    ensures { λ r. ⌜ r < 30 ⌝ }
+{
+    if g < 9 {
+        return g;
+    }
+    9 + (number as usize * 3 + g % 3) % 21
+}
+
 // Grid g of a table, with the gap of sheet p.
 fn nth(number: u8, g: usize, p: usize) -> Grid {
-    let gap = GAPS[p % 5];
-    if g < 9 {
-        return Grid {
-            rows: ROWS[g],
-            columns: COLUMNS[g],
-            gap,
-        };
-    }
-    let own = (number as usize * 3 + g % 3) % 21;
+    let at = place(number, g);
     Grid {
-        rows: OWN_ROWS[own],
-        columns: OWN_COLUMNS[own],
-        gap,
+        rows: ROWS[at],
+        columns: COLUMNS[at],
+        gap: GAPS[p % 5],
     }
 }
 
@@ -189,11 +205,14 @@ fn faults(plane: &mut [u8], table: &[u64], number: u8) -> Tally {
     sum
 }
 
-// The line of grid g.
-fn line(plane: &mut [u8], table: &[u64], number: u8, g: usize) {
-    let grid = nth(number, g, 0);
+fn say_sides(grid: Grid) {
     say(b"  sheets of ", grid.rows as u64);
     say(b" x ", grid.columns as u64);
+}
+
+// The line of grid g.
+fn line(plane: &mut [u8], table: &[u64], number: u8, g: usize) {
+    say_sides(nth(number, g, 0));
     if is_good(number, g) {
         report(b":", one_grid(plane, table, number, g, READ, Tally::new()));
         return;

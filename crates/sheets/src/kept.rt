@@ -80,7 +80,7 @@ fn paint_into(plane: &mut [u8], table: &[u64], board: Board, room: &mut [f32], f
     let n = least(QUAD_SIZE * tags_of(board.grid), room.len());
     let most = if fault == SHORT { less(n) } else { n };
     let lent = least(most, room.len());
-    paint(plane, table, board, &mut room[0..lent])
+    paint(plane, table, board.grid, board.tag, &mut room[0..lent])
 }
 
 // Whether the sheet is refused by 17, or by 16 if the output is too short, and all is left.
