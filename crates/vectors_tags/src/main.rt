@@ -1,10 +1,11 @@
-// Replays what the original's turn, search, levels, corner test and quad reader answered, its families, paintings, and the limits of
-// documents 01 and 02, against the public entries on tags; what has a picture again with filler between its lines.
-// tools/oracle/README.md says how the files were made.
+// Replays what the original's turn, search, levels, corner test and quad reader answered, its families, paintings of tags and
+// sheets, and the limits of documents 01 and 02, against the public entries on tags; what has a picture again with filler between
+// its lines. tools/oracle/README.md says how the files were made.
 mod bit_codes;
 mod padded;
 mod paintings;
 mod quads;
+mod sheets;
 mod words;
 
 use libc::STDOUT_FILENO;
@@ -87,6 +88,7 @@ fn replay_padded(layout: u8, heading: &[u8]) {
     replay_at(layout, QUADS, b"readings");
     replay_at(layout, PAINTER, b"paintings");
     replay_at(layout, PAINTER, b"prints");
+    replay_at(layout, PAINTER, b"sheets");
 }
 
 fn main() {
@@ -95,6 +97,7 @@ fn main() {
     replay_quads();
     replay_file(PAINTER, b"paintings");
     replay_file(PAINTER, b"prints");
+    replay_file(PAINTER, b"sheets");
     replay_padded(padded::ZERO, b"packed planes again at pitch width + 1:\n");
     replay_padded(padded::FULL, b"packed planes again at pitch width + 13:\n");
     replay_padded(padded::NOISE, b"packed planes again at pitch 2 x width:\n");

@@ -133,7 +133,7 @@ impl Seen {
 }
 
 // Looks at every byte of a plane of this width and pitch.
-pub fn look(plane: &[u8], width: usize, pitch: usize) -> Seen {
+fn look(plane: &[u8], width: usize, pitch: usize) -> Seen {
     let mut seen = Seen {
         digest: vectors::DIGEST,
         kept: true,
@@ -147,4 +147,12 @@ pub fn look(plane: &[u8], width: usize, pitch: usize) -> Seen {
         k += 1;
     }
     seen
+}
+
+// After a call that answers this number. A refused call paints no pixel: every byte is as before.
+pub fn look_after(refusal: u8, plane: &[u8], frame: Frame) -> Seen {
+    if refusal == 0 {
+        return look(plane, frame.width, frame.pitch);
+    }
+    look(plane, 0, 1)
 }

@@ -1,7 +1,7 @@
-// Frames of a painting, and of a painted tag that is read at its four starts, on planes of some layout.
+// Frames of a painted tag or sheet, and of a painted tag that is read at its four starts, on planes of some layout.
 use crate::padded;
-use crate::padded::Seen;
 use crate::quads::reading_alike;
+use crate::sheets::sheet_alike;
 use muosleap_paint::painting::Painted;
 use muosleap_paint::painting::paint_tag;
 use muosleap_paint::painting::paint_tag_in;
@@ -20,7 +20,7 @@ use vectors::u32_at;
 use vectors::u64_at;
 
 // Where a tag is printed, and how, in numbers of eight bytes and three of one.
-fn print_at(s: &[u8]) -> Print {
+pub fn print_at(s: &[u8]) -> Print {
     Print {
         x: u64_at(s, 0) as usize,
         y: u64_at(s, 8) as usize,
@@ -41,7 +41,6 @@ fn painted_alike(s: &[u8], painted: Painted) -> bool {
 }
 
 fn painted(record: &[u8], frame: Frame, plane: &mut [u8]) -> Painted {
-    padded::fill(plane);
     paint_tag(
         plane,
         frame,
@@ -52,19 +51,20 @@ fn painted(record: &[u8], frame: Frame, plane: &mut [u8]) -> Painted {
     )
 }
 
-// A refused call paints no pixel: every byte is as before.
-fn looked(plane: &[u8], frame: Frame, answer: Painted) -> Seen {
-    match answer {
-        Painted::Tag(_) => padded::look(plane, frame.width, frame.pitch),
-        Painted::Refused(_) => padded::look(plane, 0, 1),
-    }
+// The answer, the digest of the pixels afterwards, and every other byte.
+fn single_alike(record: &[u8], frame: Frame, plane: &mut [u8]) -> bool {
+    let answer = painted(record, frame, plane);
+    let seen = padded::look_after(u8_at(record, 66), plane, frame);
+    painted_alike(rest(record, 66), answer) & (seen.digest == u64_at(record, 67)) & seen.kept
 }
 
-// The answer, the digest of the pixels afterwards, and every other byte.
+// A single tag, or else a sheet, on a plane that holds noise.
 fn plane_alike(record: &[u8], frame: Frame, plane: &mut [u8]) -> bool {
-    let answer = painted(record, frame, plane);
-    let seen = looked(plane, frame, answer);
-    painted_alike(rest(record, 66), answer) & (seen.digest == u64_at(record, 67)) & seen.kept
+    padded::fill(plane);
+    if u8_at(record, 0) == 1 {
+        return single_alike(record, frame, plane);
+    }
+    sheet_alike(record, frame, plane)
 }
 
 // Whether a plane of its own frame and length is packed, and has room in the buffer with another frame.
@@ -120,7 +120,7 @@ fn painted_in(record: &[u8], frame: Frame, plane: &mut [u8]) -> Painted {
 
 fn print_alike(record: &[u8], frame: Frame, plane: &mut [u8]) -> bool {
     let answer = painted_in(record, frame, plane);
-    let seen = looked(plane, frame, answer);
+    let seen = padded::look_after(0, plane, frame);
     match answer {
         Painted::Tag(quad) => {
             seen.kept & starts_alike(rest(record, 18), u8_at(record, 3), plane, frame, quad)
@@ -137,8 +137,8 @@ fn tag_alike(record: &[u8], layout: u8) -> bool {
 }
 
 pub fn alike(kind: u8, record: &[u8], layout: u8) -> bool {
-    if kind == 1 {
-        return painting_alike(record, layout);
+    if kind == 2 {
+        return tag_alike(record, layout);
     }
-    tag_alike(record, layout)
+    painting_alike(record, layout)
 }

@@ -159,7 +159,7 @@ fn length_at(frame: &[u8], at: usize, most: usize) -> usize
     least(u16_at(frame, at) as usize, most)
 }
 
-fn family_at(s: &[u8]) -> Family {
+pub fn family_at(s: &[u8]) -> Family {
     Family {
         edge: u8_at(s, 0),
         border: u8_at(s, 1),

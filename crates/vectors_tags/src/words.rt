@@ -157,7 +157,7 @@ fn likeness_alike(frame: &[u8], edge: u8, codes: &[u64]) -> bool {
 }
 
 // The codes of eight bytes in `s`, as many as `codes` has room for.
-fn read_codes(s: &[u8], codes: &mut [u64]) {
+pub fn read_codes(s: &[u8], codes: &mut [u64]) {
     let mut i = 0;
     while i < codes.len() {
         codes[i] = u64_at(s, i << 3);

@@ -14,6 +14,8 @@ pub mod planes;
 #[cfg(original)]
 pub mod quads;
 #[cfg(original)]
+pub mod sheets;
+#[cfg(original)]
 pub mod words;
 
 pub use image;

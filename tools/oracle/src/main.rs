@@ -2,9 +2,9 @@
 
 #[cfg(original)]
 fn main() {
-    use oracle::{levels, painter, planes, quads, words};
+    use oracle::{levels, painter, planes, quads, sheets, words};
     let crates = std::env::args().nth(1).expect("usage: oracle CRATES, the folder of the crates");
-    let files = [words::files(), levels::files(), planes::files(), quads::files(), painter::files()].concat();
+    let files = [words::files(), levels::files(), planes::files(), quads::files(), painter::files(), sheets::files()].concat();
     for file in files {
         file.write(&crates);
     }

@@ -26,7 +26,7 @@ pub struct Print {
 }
 
 impl Print {
-    fn size(&self) -> u64 {
+    pub fn size(&self) -> u64 {
         (self.edge as u64 + 2 * self.border as u64) * self.cell
     }
 
@@ -65,7 +65,7 @@ impl Print {
     }
 
     /// A plane of this width and height without filler.
-    fn packed(&self) -> Plane {
+    pub fn packed(&self) -> Plane {
         let (width, height) = (self.width, self.height);
         Plane { width, height, pitch: width, length: (width * height) as u32 }
     }
