@@ -29,8 +29,8 @@
 #![deny(unsafe_code)]
 #![warn(missing_docs)]
 
-#[allow(unsafe_code)]
 pub mod board;
+#[allow(unsafe_code)]
 pub mod c;
 pub mod detector;
 pub mod files;
