@@ -4,7 +4,8 @@ use crate::{Picture, Point, Quad};
 
 /// Draws a square of so many pixels a side beside each corner of each tag, outside of the tag and diagonal from it. On a sheet with
 /// gaps of this size these are the crossings of the gaps, and squares around the outer tags: every outer corner of a tag then meets
-/// the corner of a square and is a saddle point. No pixel of a tag changes. What does not fit into the picture is left out.
+/// the corner of a square and is a saddle point. Where a side is no more than the gap between two tags, no pixel of a tag changes;
+/// larger squares can reach into the next tag. What does not fit into the picture is left out.
 ///
 /// ```
 /// use muosleap::{Family, Grid, Picture, Print, board::corner_squares};

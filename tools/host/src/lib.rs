@@ -1,8 +1,9 @@
 //! Muosleap for Rust programs: reads the square tags of a printed sheet in a camera picture.
 //!
-//! Every call goes to `libmuosleap_c.a`, which is compiled from code that is proved against its definition for all inputs. This
-//! crate adds types: a refusal with a name and a sentence instead of a number, small structs for pictures, points, quads and
-//! tables. It also has the few host parts that the proved code leaves to Rust: [`image_util::kernel`], [`image_util::to_unit`].
+//! What reads and paints is `libmuosleap_c.a`, which is compiled from code that is proved against its definition for all inputs.
+//! This crate adds types: a refusal with a name and a sentence instead of a number, small structs for pictures, points, quads and
+//! tables. What it does itself, in Rust and not proved, is little: [`image_util::kernel`] and [`image_util::to_unit`], which the proved
+//! code leaves to its host, the squares of [`board`], the [`files`], and sums about sizes, as in [`Grid::shape`].
 //!
 //! - [`Picture`]: an 8-bit picture, with or without filler behind its lines.
 //! - [`detector`]: words, levels and quads, by [`Family`] or by a [`Table`] of your own; and how a tag's [wear](detector#wear) shows.

@@ -3,8 +3,8 @@
 
 mod numbers;
 
-use muosleap::image_util::{Saddles, kernel, to_unit};
 use muosleap::board::corner_squares;
+use muosleap::image_util::{Saddles, kernel, to_unit};
 use muosleap::{FAMILIES, Family, Grid, Picture, Print, Quad, Refusal, Shape, Table, c};
 use numbers::Numbers;
 use std::collections::BTreeSet;
