@@ -1,10 +1,14 @@
 //! The sheet printer: its files hold the sheet that the library paints, pixel for pixel, and what it cannot print it says, and then
-//! writes nothing.
+//! writes nothing, and leaves an existing file as it was.
 
-use muosleap::{FAMILIES, Family, Grid, Picture, Print, Shape, Table};
-use std::fs;
+use muosleap::{FAMILIES, Family, Grid, Picture, Print, Shape, Table, files};
+use std::collections::BTreeMap;
+use std::ffi::OsString;
+use std::fs::{self, File};
+use std::io;
+use std::panic::catch_unwind;
 use std::path::{Path, PathBuf};
-use std::process::{Command, Output};
+use std::process::{Command, Output, Stdio};
 
 /// An empty folder.
 fn folder(name: &str) -> PathBuf {
@@ -14,9 +18,22 @@ fn folder(name: &str) -> PathBuf {
     folder
 }
 
+/// The files of a folder, by name.
+fn contents(folder: &Path) -> BTreeMap<OsString, Vec<u8>> {
+    let files = fs::read_dir(folder).unwrap().map(|file| file.unwrap());
+    files.map(|file| (file.file_name(), fs::read(file.path()).unwrap())).collect()
+}
+
+/// The printer in a folder, with the words of this line.
+fn command(folder: &Path, line: &str) -> Command {
+    let mut sheet = Command::new(env!("CARGO_BIN_EXE_sheet"));
+    sheet.current_dir(folder).args(line.split_whitespace());
+    sheet
+}
+
 /// Runs the printer in a folder, with the words of this line.
 fn sheet(folder: &Path, line: &str) -> Output {
-    Command::new(env!("CARGO_BIN_EXE_sheet")).current_dir(folder).args(line.split_whitespace()).output().unwrap()
+    command(folder, line).output().unwrap()
 }
 
 /// Runs it, and answers what it says.
@@ -118,6 +135,8 @@ fn both_files_hold_the_sheet() {
         assert!(told[0].starts_with(&written("a.pgm")) && told[1].starts_with(&written("b.PNG")), "{told:?}");
         assert!(told[0].contains(&format!("to tag {} upper right.", grid.tags() - 1)), "{told:?}");
     }
+    // Each file has replaced the one before, and there are no others.
+    assert!(contents(&folder).into_keys().eq(["a.pgm", "b.PNG"]));
 }
 
 #[test]
@@ -132,10 +151,27 @@ Written: sheet.png, 468 x 324 pixels, 8-bit grey.
 2 rows of 3 tags of T25H9, 12 pixels a module. Tag 0 is lower left;
 numbers rise along a row and then upward, to tag 5 upper right.
 Before it was written, every tag was read under its own number from all four starts.
-Printed at 300 dpi, not scaled: 39.6 x 27.4 mm, a tag 9.14 mm a side,
-12.19 mm from a tag to the next.
+Printed at 300 dpi, not scaled: 39.6 x 27.4 mm in all, each tag 9.14 mm a side.
+Along a row: gaps of 3.05 mm between the tags, 12.19 mm from a tag's left side to the next one's.
+From row to row: gaps of 3.05 mm between the tags, 12.19 mm from a tag's lower side to the next one's.
 ";
     assert_eq!(told, expected);
+}
+
+#[test]
+fn a_single_tag_has_no_next_one() {
+    let folder = folder("single");
+    let along = "Along a row: gaps of 0.20 mm between the tags, 1.02 mm from a tag's left side to the next one's.\n";
+    let upward = "From row to row: gaps of 0.20 mm between the tags, 1.02 mm from a tag's lower side to the next one's.\n";
+    for (rows, columns, told, steps) in [
+        (1, 1, "1 row of 1 tag of T16H5, 1 pixel a module. It is tag 0.\n", ""),
+        (1, 3, "1 row of 3 tags of T16H5, 1 pixel a module. Tag 0 is lower left;\n", along),
+        (2, 1, "2 rows of 1 tag of T16H5, 1 pixel a module. Tag 0 is lower left;\n", upward),
+    ] {
+        let line = format!("a.png --family T16H5 --rows {rows} --columns {columns} --cell 1 --gap 2 --dpi 250");
+        let said = accepted(&folder, &line);
+        assert!(said.contains(told) && said.ends_with(&format!(" mm in all, each tag 0.81 mm a side.\n{steps}")), "{said}");
+    }
 }
 
 #[test]
@@ -152,24 +188,32 @@ fn a_list_of_ones_own_is_printed() {
     assert_eq!(pgm(&fs::read(folder.join("own.pgm")).unwrap()), expected);
 }
 
-/// Runs the printer for each line, which has to end with this status and to say what is wrong, and to write nothing.
+/// Runs the printer for each line, which names the file a.png or a.pgm. It has to end with this status, to say what is wrong, and to
+/// write nothing: where there is no such file, and where there is one.
 fn refused(folder: &Path, status: i32, lines: &[(&str, &str)]) {
-    let files = fs::read_dir(folder).unwrap().count();
-    for (line, wrong) in lines {
-        let output = sheet(folder, line);
-        let said = String::from_utf8(output.stderr).unwrap();
-        assert!(said.starts_with(&format!("sheet: {wrong}")), "{line}: {said}");
-        assert_eq!((output.status.code(), output.stdout.len()), (Some(status), 0), "{line}");
-        assert_eq!(said.contains("\nusage: sheet FILE "), status == 2, "{line}: {said}");
+    for exists in [false, true] {
+        for file in ["a.png", "a.pgm"].map(|name| folder.join(name)) {
+            let _ = fs::remove_file(&file);
+            if exists {
+                fs::write(file, "as before").unwrap();
+            }
+        }
+        let before = contents(folder);
+        for (line, wrong) in lines {
+            let output = sheet(folder, line);
+            let said = String::from_utf8(output.stderr).unwrap();
+            assert!(said.starts_with(&format!("sheet: {wrong}")), "{line}: {said}");
+            assert_eq!((output.status.code(), output.stdout.len()), (Some(status), 0), "{line}");
+            assert_eq!(said.contains("\nusage: sheet FILE "), status == 2, "{line}: {said}");
+            assert_eq!(contents(folder), before, "{line}");
+        }
     }
-    assert_eq!(fs::read_dir(folder).unwrap().count(), files, "something was written");
 }
 
 #[test]
 fn what_cannot_be_printed_is_said() {
     let folder = folder("refused");
     for (line, tags, refusal) in [
-        ("a.png --family T36H11 --rows 16 --columns 16 --cell 64", "256 tags of 587 codes on 13504 x 13504", 1),
         ("a.png --family T16H5 --rows 2 --columns 2 --light 49", "4 tags of 30 codes on 300 x 300", 14),
         ("a.png --family T16H5 --rows 2 --columns 2 --dark 206", "4 tags of 30 codes on 300 x 300", 14),
         ("a.png --family T16H5 --rows 31 --columns 1 --gap 1 --cell 1 --margin 5", "31 tags of 30 codes on 18 x 288", 17),
@@ -178,6 +222,72 @@ fn what_cannot_be_printed_is_said() {
         refused(&folder, 1, &[(line, &wrong)]);
     }
     refused(&folder, 1, &[("no/folder/a.pgm --family T16H5 --rows 2 --columns 2", "cannot write no/folder/a.pgm: ")]);
+}
+
+#[test]
+fn a_picture_that_is_too_large_is_told() {
+    let folder = folder("large");
+    for (line, pixels) in [
+        ("a.png --family T36H11 --rows 16 --columns 16 --cell 64", "13504 x 13504"),
+        ("a.png --family T16H5 --rows 1 --columns 2 --cell 1 --gap 1 --margin 2040", "4097 x 4088"),
+        ("a.pgm --family T16H5 --rows 2 --columns 1 --cell 1 --gap 1 --margin 2040", "4088 x 4097"),
+        ("a.pgm --codes list --edge 8 --border 4 --threshold 1 --rows 32 --columns 32 --cell 64 --margin 4096", "46912 x 46912"),
+    ] {
+        fs::write(folder.join("list"), "1").unwrap();
+        let wrong =
+            format!("a picture has at most 4096 pixels a side, and this one would have {pixels} pixels, margin included\n");
+        refused(&folder, 1, &[(line, &wrong)]);
+    }
+    let told = accepted(&folder, "a.pgm --family T16H5 --rows 1 --columns 1 --cell 1 --margin 2044");
+    assert!(told.starts_with("Written: a.pgm, 4096 x 4096 pixels, "), "{told}");
+}
+
+#[test]
+fn a_file_stays_whole_where_writing_fails() {
+    let folder = folder("failed");
+    fs::write(folder.join("a.pgm"), "as before").unwrap();
+    let before = contents(&folder);
+    // No file may be longer than 1 KiB.
+    let limited = ["-c", "ulimit -f 1 && trap '' XFSZ && exec \"$@\"", "sh", env!("CARGO_BIN_EXE_sheet")];
+    let line = "a.pgm --family T16H5 --rows 2 --columns 2";
+    let output = Command::new("sh").current_dir(&folder).args(limited).args(line.split_whitespace()).output().unwrap();
+    let said = String::from_utf8(output.stderr).unwrap();
+    assert!(output.status.code() == Some(1) && said.starts_with("sheet: cannot write a.pgm: File too large"), "{said}");
+    assert_eq!(contents(&folder), before);
+    // A folder has this name.
+    fs::create_dir_all(folder.join("folder/a.pgm")).unwrap();
+    let output = sheet(&folder.join("folder"), line);
+    assert!(output.status.code() == Some(1) && output.stderr.starts_with(b"sheet: cannot write a.pgm: "));
+    assert_eq!(fs::read_dir(folder.join("folder")).unwrap().count(), 1);
+}
+
+#[test]
+fn words_that_cannot_be_told_are_an_error() {
+    let folder = folder("words");
+    let full = || File::options().write(true).open("/dev/full").unwrap();
+    let (reader, closed) = io::pipe().unwrap();
+    drop(reader);
+    for (file, words) in [("full.pgm", Stdio::from(full())), ("closed.pgm", Stdio::from(closed))] {
+        let output = command(&folder, &format!("{file} --family T16H5 --rows 2 --columns 2")).stdout(words).output().unwrap();
+        let said = String::from_utf8(output.stderr).unwrap();
+        let wrong = format!("sheet: {file} is written, but what it holds cannot be told: ");
+        assert!(output.status.code() == Some(1) && said.starts_with(&wrong), "{said}");
+        assert_eq!(pgm(&fs::read(folder.join(file)).unwrap()).0, Shape { width: 300, height: 300 });
+    }
+    for (line, status) in [("a.jpg", 2), ("no/folder/a.pgm --family T16H5 --rows 2 --columns 2", 1)] {
+        assert_eq!(command(&folder, line).stderr(full()).status().unwrap().code(), Some(status));
+    }
+}
+
+#[test]
+fn files_have_limits() {
+    for (width, height, pixels) in [(0, 0, 0), (0, 3, 0), (3, 0, 0), (2, 3, 5), (2, 3, 7), (1 << 63, 2, 0)] {
+        assert!(catch_unwind(|| files::pgm(width, height, &vec![1; pixels])).is_err(), "{width} x {height}, {pixels}");
+        assert!(catch_unwind(|| files::png(width, height, &vec![[1]; pixels], None)).is_err(), "{width} x {height}, {pixels}");
+    }
+    for (dpi, meter) in [(0, 1), (1, 39), (54_546_084, 2_147_483_622), (54_546_085, 0x7fff_ffff), (usize::MAX, 0x7fff_ffff)] {
+        assert_eq!(png(&files::png(1, 1, &[[9]], Some(dpi))), (Shape { width: 1, height: 1 }, vec![9], meter));
+    }
 }
 
 #[test]
@@ -190,7 +300,11 @@ fn a_bad_list_is_told() {
         ("231b\n\n+5\n", "list, line 3: a code is a hexadecimal number of up to 16 digits, not +5"),
         ("0xg", "list, line 1: a code is a hexadecimal number of up to 16 digits, not 0xg"),
         ("10000000000000000", "list, line 1: a code is a hexadecimal number of up to 16 digits, not 10000000000000000"),
-        ("231b", "cannot paint 2 tags of 1 codes on 300 x 168 pixels, margin included: refusal 17: a sheet's side"),
+        ("0x0000000000000231b", "list, line 1: a code is a hexadecimal number of up to 16 digits, not 0x0000000000000231b"),
+        ("0x", "list, line 1: a code is a hexadecimal number of up to 16 digits, not 0x"),
+        ("0X231b", "list, line 1: a code is a hexadecimal number of up to 16 digits, not 0X231b"),
+        ("231b 2ea5", "list, line 1: a code is a hexadecimal number of up to 16 digits, not 231b 2ea5"),
+        ("231b", "cannot paint 2 tags of 1 code on 300 x 168 pixels, margin included: refusal 17: a sheet's side"),
     ] {
         fs::write(folder.join("list"), text).unwrap();
         let line = "a.pgm --codes list --edge 4 --border 2 --threshold 1 --rows 1 --columns 2";
@@ -225,6 +339,11 @@ fn a_bad_command_line_is_told() {
         ("a.png --family T16H5 --rows 2 --columns 2 --margin 0", "--margin takes a number from 1 to 4096, not 0"),
         ("a.png --family T16H5 --rows 2 --columns 2 --dpi x", "--dpi takes a number from 1 to 9600, not x"),
         ("a.png --family T16H5 --rows 2 --columns 2 --dpi", "--dpi takes a number from 1 to 9600"),
+        ("--rows --columns 2 a.png", "--rows takes a number from 1 to 32\n"),
+        ("--family T16H5 --rows --columns 2 a.png", "--rows takes a number from 1 to 32\n"),
+        ("--rows 2 --columns --family T16H5 a.png", "--columns takes a number from 1 to 32\n"),
+        ("--family --rows 2 --columns 2 a.png", families),
+        ("--codes --edge 4 --border 2 --threshold 1 --rows 2 --columns 2 a.png", "--codes takes the name of a file\n"),
         ("a.png --family T16H5 --rows 2 --columns 2 --rows 2", "--rows is one too many"),
         ("a.png --family T16H5 --rows 2 --columns 2 --first 3", "there is no option --first"),
         ("a.png --family T16H5 --codes list --rows 2 --columns 2", "--family and --codes exclude each other"),

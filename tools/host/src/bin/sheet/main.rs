@@ -3,29 +3,31 @@
 #[path = "../shared/number.rs"]
 mod number;
 mod options;
+mod report;
 
 use muosleap::files::{pgm, png};
 use muosleap::{Picture, Quad, Refusal, Shape, Table, Tag};
 use options::{Format, Options, Tags, USAGE};
-use std::fs;
+use report::{counted, report};
+use std::fs::{self, File};
+use std::io::{self, Write};
 use std::path::Path;
-use std::process::ExitCode;
+use std::process::{self, ExitCode};
+
+/// The most pixels along a side of a picture.
+const LONGEST: usize = 4_096;
 
 fn main() -> ExitCode {
-    let options = match Options::read(std::env::args_os().skip(1)) {
-        Ok(options) => options,
-        Err(wrong) => {
-            eprintln!("sheet: {wrong}\n{USAGE}");
-            return ExitCode::from(2);
-        }
+    let (status, wrong) = match Options::read(std::env::args_os().skip(1)) {
+        Ok(options) => match run(&options) {
+            Ok(()) => return ExitCode::SUCCESS,
+            Err(wrong) => (1, wrong),
+        },
+        Err(wrong) => (2, format!("{wrong}\n{USAGE}")),
     };
-    match run(&options) {
-        Ok(()) => ExitCode::SUCCESS,
-        Err(wrong) => {
-            eprintln!("sheet: {wrong}");
-            ExitCode::FAILURE
-        }
-    }
+    // Where not even this can be said, the status says it.
+    let _ = writeln!(io::stderr(), "sheet: {wrong}");
+    ExitCode::from(status)
 }
 
 fn run(options: &Options) -> Result<(), String> {
@@ -37,13 +39,15 @@ fn run(options: &Options) -> Result<(), String> {
     table.check_likeness().map_err(|refusal| format!("these codes make no sheet: {refusal}"))?;
     let (picture, quads) = paint(&table, options)?;
     check(&table, &picture, &quads)?;
-    let file = match options.format {
+    let bytes = match options.format {
         Format::Pgm => pgm(picture.width, picture.height, &picture.bytes),
         Format::Png => png(picture.width, picture.height, picture.bytes.as_chunks::<1>().0, Some(options.dpi)),
     };
-    fs::write(&options.file, file).map_err(|error| format!("cannot write {}: {error}", options.file.display()))?;
-    tell(&table, options, picture.shape());
-    Ok(())
+    let file = options.file.display();
+    write(&options.file, &bytes).map_err(|error| format!("cannot write {file}: {error}"))?;
+    let mut output = io::stdout().lock();
+    let told = write!(output, "{}", report(&table, options, picture.shape())).and_then(|()| output.flush());
+    told.map_err(|error| format!("{file} is written, but what it holds cannot be told: {error}"))
 }
 
 /// The codes of a list's file, one on each line that is not empty. A family has its own.
@@ -56,7 +60,8 @@ fn codes(tags: &Tags) -> Result<Vec<u64>, String> {
 
 fn code(line: &str) -> Option<u64> {
     let digits = line.strip_prefix("0x").unwrap_or(line);
-    u64::from_str_radix(digits, 16).ok().filter(|_| !digits.starts_with('+'))
+    let hexadecimal = digits.len() <= 16 && digits.bytes().all(|digit| digit.is_ascii_hexdigit());
+    u64::from_str_radix(digits, 16).ok().filter(|_| hexadecimal)
 }
 
 fn no_code(file: &Path, place: usize, line: &str) -> String {
@@ -68,14 +73,14 @@ fn paint(table: &Table, options: &Options) -> Result<(Picture<Vec<u8>>, Vec<Quad
     let Options { grid, print, .. } = options;
     let Shape { width, height } = grid.shape(table, print.cell);
     let (width, height) = (width + 2 * print.x, height + 2 * print.y);
-    // A larger picture is refused, whatever its bytes.
-    let bytes = vec![0; width.min(4_096) * height.min(4_096)];
-    let mut picture = Picture::packed(bytes, width, height);
+    let pixels = format!("{width} x {height} pixels, margin included");
+    if width.max(height) > LONGEST {
+        return Err(format!("a picture has at most {LONGEST} pixels a side, and this one would have {pixels}"));
+    }
+    let mut picture = Picture::packed(vec![0; width * height], width, height);
     let painted = table.paint_sheet(&mut picture, grid, print);
-    let (tags, codes) = (grid.tags(), table.codes.len());
-    let quads = painted.map_err(|refusal| {
-        format!("cannot paint {tags} tags of {codes} codes on {width} x {height} pixels, margin included: {refusal}")
-    })?;
+    let (tags, codes) = (counted(grid.tags(), "tag"), counted(table.codes.len(), "code"));
+    let quads = painted.map_err(|refusal| format!("cannot paint {tags} of {codes} on {pixels}: {refusal}"))?;
     Ok((picture, quads))
 }
 
@@ -92,19 +97,13 @@ fn check(table: &Table, picture: &Picture<Vec<u8>>, quads: &[Quad]) -> Result<()
     Ok(())
 }
 
-/// What was written, and how large it is on paper.
-fn tell(table: &Table, options: &Options, Shape { width, height }: Shape) {
-    let Options { file, tags, grid, print, dpi, .. } = options;
-    let name = match tags {
-        Tags::Family(family) => format!("{family:?}"),
-        Tags::List { codes, .. } => codes.display().to_string(),
-    };
-    println!("Written: {}, {width} x {height} pixels, 8-bit grey.", file.display());
-    println!("{} rows of {} tags of {name}, {} pixels a module. Tag 0 is lower left;", grid.rows, grid.columns, print.cell);
-    println!("numbers rise along a row and then upward, to tag {} upper right.", grid.tags() - 1);
-    println!("Before it was written, every tag was read under its own number from all four starts.");
-    let mm = |pixels: usize| pixels as f64 * 25.4 / *dpi as f64;
-    let (tag, step) = (table.side() * print.cell, (table.side() + grid.gap) * print.cell);
-    println!("Printed at {dpi} dpi, not scaled: {:.1} x {:.1} mm, a tag {:.2} mm a side,", mm(width), mm(height), mm(tag));
-    println!("{:.2} mm from a tag to the next.", mm(step));
+/// Writes a file under another name beside its place, and only when it is whole gives it its own name. Where this fails, a file that
+/// had this name before has not changed.
+fn write(file: &Path, bytes: &[u8]) -> io::Result<()> {
+    let beside = file.with_file_name(format!("sheet-{}.part", process::id()));
+    let mut part = File::create_new(&beside)?;
+    let written = part.write_all(bytes).and_then(|()| part.sync_all()).and_then(|()| fs::rename(&beside, file));
+    written.inspect_err(|_| {
+        let _ = fs::remove_file(&beside);
+    })
 }

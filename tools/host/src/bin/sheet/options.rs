@@ -65,13 +65,13 @@ impl Options {
             Some("png") => Format::Png,
             _ => return Err(format!("the file's name has to end in .pgm or .png, not {}", file.display())),
         };
-        let tags = given.tags()?;
         let (rows, columns) = (given.number("--rows", 1..=32, None)?, given.number("--columns", 1..=32, None)?);
         let (cell, gap) = (given.number("--cell", 1..=64, Some(12))?, given.number("--gap", 1..=16, Some(3))?);
         let turn = given.number("--turn", 0..=3, Some(0))? as u8;
         let (light, dark) = (given.number("--light", 0..=255, Some(255))?, given.number("--dark", 0..=255, Some(0))?);
         let margin = given.number("--margin", 1..=4_096, Some(gap * cell))?;
         let dpi = given.number("--dpi", 1..=9_600, Some(300))?;
+        let tags = given.tags()?;
         let print = Print { x: margin, y: margin, cell, turn, light: light as u8, dark: dark as u8 };
         Ok(Options { file, format, tags, grid: Grid { rows, columns, gap }, print, dpi })
     }
@@ -84,14 +84,16 @@ struct Given {
 }
 
 impl Given {
-    fn read(mut words: impl Iterator<Item = OsString>) -> Result<Given, String> {
-        let mut given = Given { file: None, named: Vec::new() };
+    fn read(words: impl Iterator<Item = OsString>) -> Result<Given, String> {
+        let (mut given, mut words) = (Given { file: None, named: Vec::new() }, words.peekable());
         while let Some(word) = words.next() {
             let name = word.to_string_lossy().into_owned();
             let twice = match NAMES.iter().find(|known| **known == name) {
                 Some(known) => {
                     let twice = given.has(known);
-                    given.named.push((known, words.next()));
+                    // The next option is no value: this one then has none.
+                    let value = words.next_if(|word| !word.as_encoded_bytes().starts_with(b"--"));
+                    given.named.push((known, value));
                     twice
                 }
                 None if name.starts_with('-') => return Err(format!("there is no option {name}")),
@@ -108,7 +110,7 @@ impl Given {
         self.named.iter().any(|(known, _)| *known == name)
     }
 
-    /// The word after an option that is on the command line.
+    /// The value of an option that is on the command line.
     fn word(&self, name: &str) -> Option<OsString> {
         self.named.iter().find(|(known, _)| *known == name).and_then(|(_, word)| word.clone())
     }
