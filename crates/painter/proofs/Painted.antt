@@ -1,13 +1,13 @@
--- The painted plane: its length, its pixels inside the tag and outside it. Assumes nothing.
+-- The painted plane: its length, and its pixels inside the tag. Assumes nothing.
 use mathlib.Core.Path.{_≡_, refl, ap, _∙_}
-use mathlib.Core.Bool.{Bool, false, cond}
+use mathlib.Core.Bool.{Bool, cond}
 use mathlib.Core.List.{List}
 use Prim.Native.Nat.{ℕ, _+_, _*_, _/_, _<_}
 use native.Mathlib.Omega.{arith}
 use lib.ListN.{length, getD}
 use Rattle.refusals.specs.declared.Frame.{Frame}
 use Rattle.refusals.specs.Pixels.{placeOf}
-use Rattle.painter.specs.Picture.{inBlock, filled}
+use Rattle.painter.specs.Picture.{filled}
 use Rattle.painter.specs.Tag.{sideOf, cellAt, shadeOf, cellOf, sizeOf, tagPixel, drawn, paintedPixel, painted}
 use Rattle.painter.specs.Printable.{Printable}
 use Rattle.painter.specs.declared.Print.{Print}
@@ -61,11 +61,3 @@ painted-middle edge border word print u v frame plane hu hv p =
     let some = good-print p .style .some in
     let h : print .cell / 2 < print .cell = omega arith in
     painted-cell edge border word print u v (print .cell / 2) (print .cell / 2) hu hv h h frame plane p
-
--- a pixel outside the tag's square is light
-pub painted-outside : (edge border word : ℕ) (print : Print) (frame : Frame) (plane : List ℕ) (x y : ℕ) → Printable (length plane) frame edge border word print
-    → x < frame .width → y < frame .height → inBlock (print .x) (print .y) (sizeOf edge border print) (sizeOf edge border print) x y ≡ false
-    → getD (painted frame edge border word print plane) (placeOf frame x y) 0 ≡ print .light
-painted-outside edge border word print frame plane x y p hx hy e =
-    pixel-repainted frame (λ x y old. paintedPixel edge border word print x y) plane x y 0 (good-print p .framed) hx hy
-    ∙ ap (λ (t : Bool). cond t (shadeOf edge border word print (cellOf print x y)) (print .light)) e
