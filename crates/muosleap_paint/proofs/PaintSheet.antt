@@ -61,6 +61,27 @@ module _ (plane : List ℕ) (frame : Frame) (family : Family) (codes : List ℕ)
   unfolding paintSheet
   is-tested = refl
 
+  -- what the first test that fails refuses
+  abbrev refused-by : ℕ → SheetPainting
+  refused-by n = paintingOf (refused n) plane quads
+
+  pub sheet-1 : badFrame (length plane) frame ≡ true → refused-by 1 ≡ paintSheet plane frame family codes grid print quads
+  sheet-1 a = sym (is-tested ∙ simp a)
+
+  pub sheet-6 : badFrame (length plane) frame ≡ false → badTable family codes ≡ true → refused-by 6 ≡ paintSheet plane frame family codes grid print quads
+  sheet-6 a b = sym (is-tested ∙ simp (a, b))
+
+  pub sheet-14 : badFrame (length plane) frame ≡ false → badTable family codes ≡ false → badStyle print ≡ true → refused-by 14 ≡ paintSheet plane frame family codes grid print quads
+  sheet-14 a b c = sym (is-tested ∙ simp (a, b, c))
+
+  pub sheet-17 : badFrame (length plane) frame ≡ false → badTable family codes ≡ false → badStyle print ≡ false → badGrid frame family (length codes) grid print ≡ true
+      → refused-by 17 ≡ paintSheet plane frame family codes grid print quads
+  sheet-17 a b c d = sym (is-tested ∙ simp (a, b, c, d))
+
+  pub sheet-16 : badFrame (length plane) frame ≡ false → badTable family codes ≡ false → badStyle print ≡ false → badGrid frame family (length codes) grid print ≡ false
+      → badOutput grid (length quads) ≡ true → refused-by 16 ≡ paintSheet plane frame family codes grid print quads
+  sheet-16 a b c d e = sym (is-tested ∙ simp (a, b, c, d, e))
+
   -- a painting that nothing refuses
   pub sheet-done : Sheetable (length plane) frame family codes grid print (length quads) → paintSheet plane frame family codes grid print quads ≡ done
   sheet-done p = is-tested ∙ simp (p .planes, p .tables, p .styles, p .grids, p .outputs)

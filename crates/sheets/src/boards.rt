@@ -1,5 +1,4 @@
 // A whole sheet, painted and read: each of its tags from its four starts, alone and in lists.
-use crate::kept::are_nines;
 use crate::lists::read_list;
 use crate::prints::Sheet;
 use crate::prints::four_starts;
@@ -41,7 +40,7 @@ fn number_of(answer: sheet::Sheet) -> u8 {
 }
 
 // Paints a sheet: by the family's number, or with a table of our own lent.
-pub fn paint(plane: &mut [u8], table: &[u64], grid: Grid, tag: Sheet, quads: &mut [f32]) -> u8 {
+fn paint(plane: &mut [u8], table: &[u64], grid: Grid, tag: Sheet, quads: &mut [f32]) -> u8 {
     if tag.number < 5 {
         return number_of(paint_sheet_in(plane, tag.frame, tag.number, grid, tag.print, quads));
     }
@@ -153,6 +152,22 @@ fn four_lists(plane: &[u8], table: &[u64], first: Sheet, quads: &[f32], tally: T
 fn all_tags(plane: &[u8], table: &[u64], first: Sheet, quads: &[f32], tally: Tally) -> Tally {
     let alone = all_alone(plane, table, first, quads, tally);
     four_lists(plane, table, first, quads, alone)
+}
+
+// What refuses a sheet, 0 where it is painted.
+pub fn refusal_of(plane: &mut [u8], table: &[u64], board: Board) -> u8 {
+    let mut room = [9.0f32; 8200];
+    paint(plane, table, board.grid, board.tag, &mut room)
+}
+
+fn are_nines(numbers: &[f32]) -> bool {
+    let mut all = true;
+    let mut i = 0;
+    while i < numbers.len() {
+        all = all & (numbers[i] == 9.0);
+        i += 1;
+    }
+    all
 }
 
 // Paints a sheet, and counts the readings of its tags and whether the numbers behind the quads are left.

@@ -1,12 +1,11 @@
 // The whole sheets of a table: its grids, and the lines that are printed of them.
 use crate::boards::Board;
 use crate::boards::readings;
+use crate::boards::refusal_of;
 use crate::boards::tags_of;
 use crate::codes;
-use crate::kept;
-use crate::kept::faulty;
-use crate::kept::is_refused;
 use crate::kinds;
+use crate::lists::refused;
 use grid::Grid;
 use refusals::packed_frame;
 use tables::Family;
@@ -148,61 +147,29 @@ fn nth_board(number: u8, g: usize, p: usize) -> Board {
     Board { grid, tag }
 }
 
-// Sheets that are to be read, behind the numbers of the faults.
-const READ: u8 = 6;
-
-// How many sheets of grid g there are with a fault, or to be read. One that the painter does not take is tried once, as it is.
-fn sheets_of(number: u8, g: usize, fault: u8) -> usize {
-    if is_good(number, g) {
-        return if fault == kept::WHOLE { 0 } else { 5 };
-    }
-    if fault == kept::WHOLE { 1 } else { 0 }
-}
-
-// Counts a sheet, in a plane that is exactly as large as its own.
-fn one_sheet(plane: &mut [u8], table: &[u64], board: Board, fault: u8, tally: Tally) -> Tally {
-    if fault == READ {
-        return readings(plane, table, board, tally);
-    }
-    tally.count(is_refused(plane, table, board, fault), fault as usize)
-}
-
-// The same in the first bytes of `plane`.
-fn one_part(plane: &mut [u8], table: &[u64], board: Board, fault: u8, tally: Tally) -> Tally {
-    let new = faulty(board, fault);
-    let frame = new.tag.frame;
+// A sheet in the first bytes of `plane`, which are exactly its own plane.
+fn one_sheet(plane: &mut [u8], table: &[u64], board: Board, tally: Tally) -> Tally {
+    let frame = board.tag.frame;
     let n = product(frame.width, frame.height, plane.len());
-    one_sheet(&mut plane[0..n], table, new, fault, tally)
+    readings(&mut plane[0..n], table, board, tally)
 }
 
-// The sheets of grid g with a fault, or to be read.
-fn one_grid(
-    plane: &mut [u8],
-    table: &[u64],
-    number: u8,
-    g: usize,
-    fault: u8,
-    tally: Tally,
-) -> Tally {
-    let n = sheets_of(number, g, fault);
-    let mut sum = tally;
+// The sheets of a grid that the painter takes.
+fn one_grid(plane: &mut [u8], table: &[u64], number: u8, g: usize) -> Tally {
+    let mut sum = Tally::new();
     let mut p = 0;
-    while p < n {
-        sum = one_part(plane, table, nth_board(number, g, p), fault, sum);
+    while p < 5 {
+        sum = one_sheet(plane, table, nth_board(number, g, p), sum);
         p += 1;
     }
     sum
 }
 
-// The sheets of all grids, with each of the first five faults.
-fn faults(plane: &mut [u8], table: &[u64], number: u8) -> Tally {
-    let mut sum = Tally::new();
-    let mut i = 0;
-    while i < 60 {
-        sum = one_grid(plane, table, number, i / 5, (i % 5) as u8, sum);
-        i += 1;
-    }
-    sum
+// What refuses the first sheet of a grid that the painter does not take.
+fn refusal(plane: &mut [u8], table: &[u64], board: Board) -> u8 {
+    let frame = board.tag.frame;
+    let n = product(frame.width, frame.height, plane.len());
+    refusal_of(&mut plane[0..n], table, board)
 }
 
 fn say_sides(grid: Grid) {
@@ -214,13 +181,10 @@ fn say_sides(grid: Grid) {
 fn line(plane: &mut [u8], table: &[u64], number: u8, g: usize) {
     say_sides(nth(number, g, 0));
     if is_good(number, g) {
-        report(b":", one_grid(plane, table, number, g, READ, Tally::new()));
+        report(b":", one_grid(plane, table, number, g));
         return;
     }
-    report(
-        b", refused by 17:",
-        one_grid(plane, table, number, g, kept::WHOLE, Tally::new()),
-    );
+    refused(refusal(plane, table, nth_board(number, g, 0)));
 }
 
 // The lines of a table.
@@ -230,8 +194,4 @@ pub fn all(plane: &mut [u8], table: &[u64], number: u8) {
         line(plane, table, number, g);
         g += 1;
     }
-    report(
-        b"  sheets with a fault, refused by 17 or 16:",
-        faults(plane, table, number),
-    );
 }

@@ -58,7 +58,7 @@ pub fn read_list(
     try_decode_quads(plane, frame, sheet.family, table, quads, rows, corners)
 }
 
-fn refused(number: u8) {
+pub fn refused(number: u8) {
     say(b" refused by ", number as u64);
     io::write_all(STDOUT_FILENO, b"\n");
 }

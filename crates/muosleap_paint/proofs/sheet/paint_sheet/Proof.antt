@@ -13,8 +13,8 @@ use Rattle.painter.specs.Printable.{badStyle}
 use Rattle.grid.specs.Refused.{badGrid, badOutput}
 use Rattle.grid.specs.Sheetable.{Sheetable}
 use Rattle.grid.proofs.Sheetable.{good-grid}
-use Rattle.muosleap_paint.specs.PaintSheet.{paintingOf, paintSheet}
-use Rattle.muosleap_paint.proofs.PaintSheet.{sheet-done}
+use Rattle.muosleap_paint.specs.PaintSheet.{paintingOf}
+use Rattle.muosleap_paint.proofs.PaintSheet.{sheet-1, sheet-6, sheet-14, sheet-17, sheet-16, sheet-done}
 use borrow.Author.Needs.{needs}
 use Rattle.muosleap_paint.proofs.sheet.paint_sheet.Statement.{statement}
 use Rattle.muosleap_paint.proofs.sheet.paint_sheet.Tie as tie
@@ -54,18 +54,21 @@ passed-16 c = sym (c .before .bad-output .ensures) ∙ c .if5 .left
 -- ---- refusals
 
 returns : tie.Need-returns
-unfolding paintSheet
-returns c = simp (sym (c .before .bad-frame .ensures) ∙ c .if1 .taken)
+returns c =
+    let a = c .before .before .before .before .before .args in
+    sheet-1 (a .plane .now) (a .frame) (a .family) (a .codes .now) (a .grid) (a .print) (a .quads .now) (sym (c .before .bad-frame .ensures) ∙ c .if1 .taken)
 
 returns-2 : tie.Need-returns-2
-unfolding paintSheet
-returns-2 c = simp (passed-1 (c .before .before), sym (c .before .bad-table .ensures) ∙ c .if2 .taken)
+returns-2 c =
+    let f = c .before .before in
+    let a = at-1 f .args in
+    sheet-6 (a .plane .now) (a .frame) (a .family) (a .codes .now) (a .grid) (a .print) (a .quads .now) (passed-1 f) (sym (c .before .bad-table .ensures) ∙ c .if2 .taken)
 
 returns-3 : tie.Need-returns-3
-unfolding paintSheet
 returns-3 c =
     let t = c .before .before in
-    simp (passed-1 (t .before .before), passed-6 t, sym (c .before .bad-style .ensures) ∙ c .if3 .taken)
+    let a = at-6 t .args in
+    sheet-14 (a .plane .now) (a .frame) (a .family) (a .codes .now) (a .grid) (a .print) (a .quads .now) (passed-1 (t .before .before)) (passed-6 t) (sym (c .before .bad-style .ensures) ∙ c .if3 .taken)
 
 bad-grid-requires : tie.Need-bad-grid-requires
 bad-grid-requires c κs =
@@ -74,11 +77,12 @@ bad-grid-requires c κs =
     (table-edge (a .family) (a .codes .now) (passed-6 t), table-border (a .family) (a .codes .now) (passed-6 t), passed-14 c)
 
 returns-4 : tie.Need-returns-4
-unfolding paintSheet
 returns-4 c =
     let s = c .before .before in
     let t = s .before .before in
-    simp (passed-1 (t .before .before), passed-6 t, passed-14 s, sym (c .before .bad-grid .ensures) ∙ c .if4 .taken)
+    let a = at-14 s .args in
+    sheet-17 (a .plane .now) (a .frame) (a .family) (a .codes .now) (a .grid) (a .print) (a .quads .now) (passed-1 (t .before .before)) (passed-6 t) (passed-14 s)
+    (sym (c .before .bad-grid .ensures) ∙ c .if4 .taken)
 
 bad-output-requires : tie.Need-bad-output-requires
 bad-output-requires c κs =
@@ -87,12 +91,13 @@ bad-output-requires c κs =
     (n .rows .most, n .columns .most)
 
 returns-5 : tie.Need-returns-5
-unfolding paintSheet
 returns-5 c =
     let g = c .before .before in
     let s = g .before .before in
     let t = s .before .before in
-    simp (passed-1 (t .before .before), passed-6 t, passed-14 s, passed-17 g, sym (c .before .bad-output .ensures) ∙ c .if5 .taken)
+    let a = at-17 g .args in
+    sheet-16 (a .plane .now) (a .frame) (a .family) (a .codes .now) (a .grid) (a .print) (a .quads .now) (passed-1 (t .before .before)) (passed-6 t) (passed-14 s) (passed-17 g)
+    (sym (c .before .bad-output .ensures) ∙ c .if5 .taken)
 
 -- ---- the sheet
 

@@ -7,10 +7,10 @@ use Rattle.sheets.proofs.grids.all.Statement.{statement}
 use Rattle.sheets.proofs.grids.all.Tie as tie
 
 abbrev Inv-loop : tie.InvT-loop
-Inv-loop plane₀ table number g₀ t5 plane g = length plane ≡ length plane₀
+Inv-loop plane₀ table number g₀ plane g = length plane ≡ length plane₀
 
 abbrev μ-loop : tie.MeasureT-loop
-μ-loop plane₀ table number g₀ t5 plane g = 12 - g
+μ-loop plane₀ table number g₀ plane g = 12 - g
 
 pub all-spec : {M : Type 1} → statement M
 all-spec =
@@ -23,8 +23,5 @@ all-spec =
     (λ c. search needs)
     (λ c. search needs)
     (λ c. search needs)
-    (λ c. search needs)
-    (λ c κs. search needs)
-    (λ c κs. search needs)
     (λ c. search needs)
     (λ c. search needs))

@@ -7,10 +7,10 @@ use Rattle.sheets.proofs.grids.one_grid.Statement.{statement}
 use Rattle.sheets.proofs.grids.one_grid.Tie as tie
 
 abbrev Inv-loop : tie.InvT-loop
-Inv-loop plane₀ table number g fault n sum₀ p₀ plane sum p = length plane ≡ length plane₀
+Inv-loop plane₀ table number g sum₀ p₀ plane sum p = length plane ≡ length plane₀
 
 abbrev μ-loop : tie.MeasureT-loop
-μ-loop plane₀ table number g fault n sum₀ p₀ plane sum p = n - p
+μ-loop plane₀ table number g sum₀ p₀ plane sum p = 5 - p
 
 pub one-grid-spec : {M : Type 1} → statement M
 one-grid-spec =

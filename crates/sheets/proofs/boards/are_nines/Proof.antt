@@ -1,9 +1,9 @@
--- `sheets::kept::are_nines` is safe and ends. The measure is what is left of the list.
+-- `sheets::boards::are_nines` is safe and ends. The measure is what is left of the list.
 use lib.ListN.{length}
 use Prim.Native.Nat.{_-_}
 use borrow.Author.Needs.{needs}
-use Rattle.sheets.proofs.kept.are_nines.Statement.{statement}
-use Rattle.sheets.proofs.kept.are_nines.Tie as tie
+use Rattle.sheets.proofs.boards.are_nines.Statement.{statement}
+use Rattle.sheets.proofs.boards.are_nines.Tie as tie
 
 abbrev Inv-loop : tie.InvT-loop
 Inv-loop numbers all₀ i₀ all i = Unit {0}
