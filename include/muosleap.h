@@ -53,6 +53,7 @@
  *       numbers a quad; for a sheet, an output shorter than eight numbers a tag
  *   17  a sheet's side of 0 or above 32 tags, a gap outside 1..16 cells, more tags than codes, or a grid that does not end at
  *       least one pixel before the right and lower edges
+ *   18  another quad of the list gives the same id
  */
 #ifndef MUOSLEAP_H
 #define MUOSLEAP_H
@@ -118,10 +119,13 @@ uint32_t muosleap_try_decode_quad_in(const uint8_t *plane, size_t plane_count, s
                                      float corners[8]);
 
 /*
- * Each quad of a list read by itself with a lent table.
- * Refusals: 1, 6, 16. The refusals of a single quad, 8 to 13, stand in its row, and the call is accepted.
+ * Each quad of a list read by itself with a lent table; then an id that two or more of them give is not trusted.
+ * Refusals: 1, 6, 16. The refusals of a quad, 8 to 13 and then 18, stand in its row, and the call is accepted.
  * quads: eight numbers a quad. rows: four numbers a quad, which are its refusal or 0, its id, its turn and its differing modules.
  * corners: eight numbers a quad. A refused quad's row is 0 but for the refusal, and its corners are 0.
+ * Quads that are read with the same id, two or more of them, are all refused with 18; a quad that stands in the list twice counts
+ * twice. What a quad is refused for by itself, 8 to 13, stays: it then gives no id and makes no other quad 18. Reading one quad alone
+ * never gives 18. So lend each found quad once.
  */
 uint32_t muosleap_try_decode_quads(const uint8_t *plane, size_t plane_count, size_t width, size_t height, size_t pitch,
                                    uint8_t edge, uint8_t border, uint8_t hamming_distance, const uint64_t *codes,
@@ -130,7 +134,7 @@ uint32_t muosleap_try_decode_quads(const uint8_t *plane, size_t plane_count, siz
 
 /*
  * The same by family number.
- * Refusals: 1, 6 (no such family), 16.
+ * Refusals: 1, 6 (no such family), 16; 8 to 13 and 18 stand in rows.
  */
 uint32_t muosleap_try_decode_quads_in(const uint8_t *plane, size_t plane_count, size_t width, size_t height, size_t pitch,
                                       uint8_t family, const float *quads, size_t quads_count, uint64_t *rows, size_t rows_count,
@@ -159,7 +163,7 @@ uint32_t muosleap_paint_tag_in(uint8_t *plane, size_t plane_count, size_t width,
  * muosleap_paint_tag draws it, all at one turn. The grid's upper left pixel is (x, y); between two tags are `gap` cells of light, so
  * that the next tag begins (edge + 2 × border + gap) × cell pixels further. The lower left tag is position 0 and shows the first code;
  * positions rise along a row and then upward. With a table that passes the likeness check, which is not tested here, each tag is read
- * under its position.
+ * under its position, in a list too where no other quad gives its id.
  * Refusals: 1, 6, 14 (cell, turn, light and dark), 17, 16.
  * plane: the picture; its filler stays as it was. quads: eight numbers a tag in the order of the positions, each tag's outer corners
  * as muosleap_paint_tag gives them. Numbers beyond these stay as they were.

@@ -100,11 +100,19 @@ fn detector(source: &Source) -> String {
     let centers = part(&saddles, "let saddle_cluster_centers", ".collect();");
     let decode = source.method("    fn try_decode_quad(");
     let order = part(&decode, "let mut new_q_pts", "try_into().unwrap();");
+    let detect = source.method("    pub fn detect(");
+    let gather = part(&detect, "if let Some((tag_id, refined_arr))", "detected_tags.insert(tag_id as u32, refined_arr);");
+    let gathered = format!(
+        "/// The tags of quads, as `detect` gathers them.\n\
+         pub fn gathered(&self, img_grey: &GrayImage, quads: &[[(f32, f32); 4]]) -> HashMap<u32, [(f32, f32); 4]> {{\n\
+         let mut detected_tags = HashMap::new();\nfor quad_points in quads.iter().map(|quad| quad.to_vec()) {{\n{gather}\n}}\n}}\n\
+         detected_tags\n}}\n"
+    );
     let search = source.whole("pub fn best_tag(");
     let quad = "quad_points: &[(f32, f32)]";
     [
-        "use std::ops::BitXor;\nuse super::{image_util, tag_families};\nuse super::image_util::GrayImagef32;\n".to_string(),
-        "use image::{GenericImageView, GrayImage};\n".to_string(),
+        "use std::{collections::HashMap, ops::BitXor};\nuse super::{image_util, tag_families};\n".to_string(),
+        "use super::image_util::GrayImagef32;\nuse image::{GenericImageView, GrayImage};\n".to_string(),
         source.whole("pub struct TagDetector"),
         source.whole("pub struct DetectorParams"),
         source.whole("impl DetectorParams"),
@@ -114,7 +122,7 @@ fn detector(source: &Source) -> String {
         best_tag_differing(&search),
         search,
         source.whole("fn init_saddle_clusters("),
-        format!("impl TagDetector {{\n{}\n{decode}\n{ACCESS}}}\n", source.method("    pub fn new(")),
+        format!("impl TagDetector {{\n{}\n{decode}\n{ACCESS}{gathered}}}\n", source.method("    pub fn new(")),
         format!(
             "/// The corner test of `decode_positions`.\n\
              pub fn corners_inside(img_w: u32, img_h: u32, quad_pts: &[(f32, f32)]) -> Option<()> {{\n{corner_test}\nSome(())\n}}\n"

@@ -1,6 +1,5 @@
 -- The loops over the levels: what each has after i levels, and how one level more changes it. Assumes nothing.
 use mathlib.Core.Path.{_≡_, refl, sym, ap, ap₂, _∙_, subst}
-use mathlib.Core.Bool.{Bool, true, false}
 use mathlib.Core.List.{List, [], _∷_, foldl}
 use Prim.Native.Nat.{ℕ, zero, suc, _+_, _-_, _*_, _^_, _≤_, _<_}
 use native.Mathlib.Nat.{pow-suc, mul-assoc, add-comm, not-suc-le-zero, le-of-suc-le-suc}
@@ -11,9 +10,9 @@ use lib.ListN.{length, getD, drop, drop-of-length-le}
 use lib.Pow.{pow-mono}
 use lib.Seq.{drop-cons}
 use Rattle.lists.specs.Sum.{sum}
-use Rattle.lists.proofs.Sum.{sum-most}
+use Rattle.lists.proofs.Sum.{sum-most, oneIf-lt}
 use Rattle.word.specs.Word.{word}
-use Rattle.levels.specs.Levels.{overAll, oneIf, above, distance, unsure}
+use Rattle.levels.specs.Levels.{overAll, above, distance, unsure}
 use Rattle.word.proofs.Bits.{word-lt, word-ext}
 
 -- ---- least and greatest: m, joined with what is left from level i on, is the whole
@@ -32,10 +31,6 @@ module _ (f : ℕ → ℕ → ℕ) (l : List ℕ) (i m v : ℕ) where
   over-done h inv = sym (ap (foldl f m) (drop-of-length-le l h)) ∙ inv
 
 -- ---- the number of unsure levels
-
-oneIf-lt : (t : Bool) → oneIf t < 2
-oneIf-lt true = omega arith
-oneIf-lt false = omega arith
 
 pub unsure-lt : (middle band level : ℕ) → unsure middle band level < 2
 unsure-lt middle band level = oneIf-lt (ltb (distance level middle) band)

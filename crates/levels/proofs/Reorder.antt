@@ -1,28 +1,17 @@
 -- A map that keeps every sum over the indexes below n takes them to each other, and takes each. Assumes nothing.
 use mathlib.Core.Path.{_≡_, refl, ap, _∙_}
 use mathlib.Core.Bool.{Bool, true, false}
-use mathlib.Core.Logic.{_⊎_, inl, inr}
 use Prim.Native.Nat.{ℕ, zero, suc, _+_, _≤_, _<_}
-use native.Mathlib.Nat.{le-refl, eq-or-lt-of-le, le-of-suc-le-suc, not-suc-le-zero}
+use native.Mathlib.Nat.{le-refl, not-suc-le-zero}
 use native.Mathlib.Omega.{arith}
 use borrow.Author.Tests.{lt-leb, eq-eqb, eqb-true, leb-false}
 use lib.Dec.{leb, eqb}
-use Rattle.lists.specs.Sum.{sum}
-use Rattle.lists.proofs.Sum.{sum-ext, sum-none}
-use Rattle.levels.specs.Levels.{oneIf}
+use Rattle.lists.specs.Sum.{sum, oneIf}
+use Rattle.lists.proofs.Sum.{sum-ext, sum-term, sum-none}
 
 -- σ takes the indexes below n to each other, each once: no sum over them changes
 abbrev pub Reorders : ℕ → (ℕ → ℕ) → Type 0
 Reorders n σ = (f : ℕ → ℕ) → sum n (λ k. f (σ k)) ≡ sum n f
-
-sum-term : (n : ℕ) (f : ℕ → ℕ) (k : ℕ) → k < n → f k ≤ sum n f
-unfolding sum
-sum-term zero f k h = absurd (not-suc-le-zero h)
-sum-term (suc n) f k h = go (sum-term n f k) (eq-or-lt-of-le (le-of-suc-le-suc h))
-  where
-    go : (k < n → f k ≤ sum n f) → (k ≡ n) ⊎ (k < n) → f k ≤ f n + sum n f
-    go ih (inl e) = omega (arith, ap f e)
-    go ih (inr l) = omega (arith, ih l)
 
 record Some (n : ℕ) (f : ℕ → ℕ) : Type 0 where
   pub k : ℕ

@@ -6,10 +6,11 @@ use Prim.Native.Nat.{ℕ, _+_, _-_, _/_, _≤_, _<_}
 use native.Mathlib.Omega.{arith}
 use borrow.Author.Tests.{lt-ltb, le-ltb}
 use lib.ListN.{length, getD}
+use Rattle.lists.specs.Sum.{oneIf}
 use Rattle.lists.proofs.Sum.{sum-ext, sum-none}
 use Rattle.refusals.specs.Outcome.{accepted}
 use Rattle.word.specs.Word.{word}
-use Rattle.levels.specs.Levels.{leastOf, greatestOf, middleOf, oneIf, above, distance, unsure, unsureOf, codeOf}
+use Rattle.levels.specs.Levels.{leastOf, greatestOf, middleOf, above, distance, unsure, unsureOf, codeOf}
 use Rattle.levels.proofs.Extremes.{Level, range-is}
 use Rattle.levels.proofs.Cases.{code-word}
 use Rattle.levels.proofs.Places.{word-by-levels}

@@ -1,10 +1,10 @@
 -- Levels to bits, as document 01 says it. A level is a number from 0 to 255; what is said here holds of any numbers. Assumes nothing.
 use Prim.Native.Nat.{ℕ, _+_, _-_, _/_, min, max}
-use mathlib.Core.Bool.{Bool, true, false, cond}
+use mathlib.Core.Bool.{cond}
 use mathlib.Core.List.{List, [], _∷_, foldl}
 use lib.Dec.{ltb}
 use lib.ListN.{length, getD}
-use Rattle.lists.specs.Sum.{sum}
+use Rattle.lists.specs.Sum.{sum, oneIf}
 use Rattle.refusals.specs.Outcome.{Outcome, accepted, refused}
 use Rattle.word.specs.Word.{word}
 
@@ -24,11 +24,6 @@ greatestOf levels = overAll max levels
 -- "Middle is half of least plus greatest level, rounded, halves up."
 abbrev pub middleOf : List ℕ → ℕ
 middleOf levels = (leastOf levels + greatestOf levels + 1) / 2
-
--- 1 where the test holds, else 0
-abbrev pub oneIf : Bool → ℕ
-oneIf true = 1
-oneIf false = 0
 
 -- "A level above the middle gives 1."
 abbrev pub above : ℕ → ℕ → ℕ

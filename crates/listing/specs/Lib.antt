@@ -1,1 +1,3 @@
+pub mod Repeated
 pub mod Listing
+pub mod Steps

@@ -1,5 +1,5 @@
--- A list reading, from 01's "Quad to tag" and refusal 16, with 02's ticket 2: "a list row becomes four numbers .., and 16 measures by that".
--- Assumes nothing.
+-- A list reading, from 01's "Quad to tag" and refusal 16, with 02's tickets 2, "a list row becomes four numbers .., and 16 measures by that",
+-- and 4, which refuses quads of one id (Repeated). Assumes nothing.
 use Prim.Native.Nat.{ℕ, _*_, _/_, _%_}
 use mathlib.Core.Bool.{Bool, not, _||_}
 use mathlib.Core.List.{List, [], _∷_, _++_, flatMap}
@@ -13,6 +13,7 @@ use Rattle.refusals.specs.declared.Frame.{Frame}
 use Rattle.points.specs.Numbers.{quadSize, quadAt, numbersOf}
 use Rattle.tables.specs.declared.Family.{Family}
 use Rattle.reader.specs.Reading.{Tag, reading}
+use Rattle.listing.specs.Repeated.{listed}
 
 -- the numbers of a row, and the most quads of a list
 abbrev pub rowSize : ℕ
@@ -42,7 +43,7 @@ abbrev pub cornersOf : Outcome Tag → List Float
 cornersOf (accepted tag) = numbersOf (tag .corners)
 cornersOf (refused n) = replicate quadSize (ofBits binary32 0)
 
--- "A list reading gives each quad by itself a row": what each quad reads as, in order
+-- "A list reading gives each quad by itself a row": what each quad reads as by itself, in order
 unfoldable pub readings : List ℕ → Frame → Family → List ℕ → List Float → List (Outcome Tag)
 unfolding tabulate reading
 readings plane frame family codes quads =
@@ -59,10 +60,10 @@ listingOf answer rows corners = record { answer = answer; rows = rows; corners =
 
 -- a list reading that nothing refuses
 unfoldable pub listing : List ℕ → Frame → Family → List ℕ → List Float → List ℕ → List Float → Listing
-unfolding readings flatMap
+unfolding readings listed flatMap
 listing plane frame family codes quads rows corners =
-    let read = readings plane frame family codes quads in
-    listingOf (accepted (quadCount (length quads))) (inFront (flatMap rowOf read) rows) (inFront (flatMap cornersOf read) corners)
+    let said = listed (readings plane frame family codes quads) in
+    listingOf (accepted (quadCount (length quads))) (inFront (flatMap rowOf said) rows) (inFront (flatMap cornersOf said) corners)
 
 -- the row of quad q in the output
 abbrev pub rowAt : List ℕ → ℕ → List ℕ

@@ -1,4 +1,4 @@
-// List of quads to rows: each quad of a list is read by itself.
+// List of quads to rows: each quad of a list is read by itself, and those that give one id are refused together.
 use points::Point;
 use points::QUAD_SIZE;
 use points::Quad;
@@ -10,7 +10,7 @@ ghost use mathlib.Core.Path.{_≡_};
 ghost use mathlib.Core.Bool.{false};
 ghost use mathlib.Core.List.{[], _∷_};
 ghost use Prim.Native.Nat.{_+_, _*_, _≤_, _<_};
-ghost use lib.ListN.{length};
+ghost use lib.ListN.{length, getD};
 ghost use lib.Seq.{sets};
 ghost use Rattle.refusals.specs.Outcome.{accepted};
 ghost use Rattle.refusals.specs.Pixels.{badFrame};
@@ -19,11 +19,15 @@ ghost use Rattle.tag_families.specs.Families.{familyOf, codesOf};
 ghost use Rattle.reader.specs.Answer.{paperReading};
 ghost use Rattle.points.specs.Numbers.{quadSize};
 ghost use Rattle.listing.specs.Listing.{rowSize, badList, rowOf, cornersOf, listingOf, listing};
+ghost use Rattle.listing.specs.Steps.{mostIds, Countable, counted, repeatedRow, LookedAt};
 
 // The numbers of a row, and the most quads of a list.
 pub const ROW_SIZE: usize = 4;
 
 const MOST_QUADS: usize = 1024;
+
+// The most ids: a table has at most so many codes.
+const MOST_IDS: usize = 1024;
 
 // Refusal 16, of the lengths of the quad list and the two outputs.
 pub fn bad_list(quads: usize, rows: usize, corners: usize) -> bool
@@ -95,7 +99,48 @@ fn put_corners(corners: &mut [f32], q: usize, reading: Reading)
     }
 }
 
-// The readings of a list, on a plane, with a table and for lengths that refusals 1, 6 and 16 let through: how many they are.
+// Counts the id of a reading, if it gives one.
+fn count_id(times: &mut [u16; MOST_IDS], reading: Reading)
+    requires { ⌜ Countable (now times) (paperReading reading) ⌝ }
+    ensures { λ _. ⌜ now (times .exit) ≡ counted (now (times .entry)) (paperReading reading) ⌝ }
+{
+    match reading {
+        Reading::Tag {
+            id,
+            turn: _,
+            differing: _,
+            corners: _,
+        } => times[id] += 1,
+        Reading::Refused(_) => {}
+    }
+}
+
+// Whether row q is that of a tag whose id was given more than once.
+fn is_repeated(rows: &[u64], times: &[u16; MOST_IDS], q: usize) -> bool
+    requires { ⌜ (rowSize * q + rowSize ≤ length (now rows)) × (getD (now rows) (rowSize * q + 1) 0 < mostIds) ⌝ }
+    ensures { λ r. ⌜ r ≡ repeatedRow (now (rows .entry)) (now (times .entry)) q ⌝ }
+{
+    let at = ROW_SIZE * q;
+    if rows[at] != 0 {
+        return false;
+    }
+    let id = rows[at + 1] as usize;
+    1 < times[id]
+}
+
+// Refuses row q by 18 where its id was given more than once.
+fn refuse_repeated(rows: &mut [u64], corners: &mut [f32], times: &[u16; MOST_IDS], q: usize)
+    requires { ⌜ (rowSize * q + rowSize ≤ length (now rows)) × (quadSize * q + quadSize ≤ length (now corners)) × (getD (now rows) (rowSize * q + 1) 0 < mostIds) ⌝ }
+    ensures { λ _. ⌜ LookedAt (now (rows .entry)) (now (corners .entry)) (now (times .entry)) q (now (rows .exit)) (now (corners .exit)) ⌝ }
+{
+    if is_repeated(rows, times, q) {
+        put_row(rows, q, Reading::Refused(18));
+        put_corners(corners, q, Reading::Refused(18));
+    }
+}
+
+// The readings of a list, on a plane, with a table and for lengths that refusals 1, 6 and 16 let through: how many they are. The first
+// pass reads each quad and counts its id, the second one refuses the rows of ids that were given more than once.
 pub fn try_decode_quads(
     plane: &[u8],
     frame: Frame,
@@ -110,13 +155,20 @@ pub fn try_decode_quads(
         ≡ listing (now (plane .entry)) frame family (now (codes .entry)) (now (quads .entry)) (now (rows .entry)) (now (corners .entry)) ⌝ }
 {
     let count = quads.len() / QUAD_SIZE;
+    let mut times = [0u16; MOST_IDS];
     let mut q = 0;
     while q < count {
         let quad = points::quad_at(quads, q);
         let reading = reader::try_decode_quad(plane, frame, family, codes, quad);
+        count_id(&mut times, reading);
         put_row(rows, q, reading);
         put_corners(corners, q, reading);
         q += 1;
+    }
+    let mut p = 0;
+    while p < count {
+        refuse_repeated(rows, corners, &times, p);
+        p += 1;
     }
     count
 }

@@ -6,7 +6,7 @@ use Prim.Native.Nat.{ℕ, zero, suc, _+_, _<_}
 use native.Mathlib.Nat.{not-suc-le-zero, le-of-suc-le-suc, le-refl, le-of-eq}
 use native.Mathlib.Numerals.{add-one}
 use lib.ListN.{length, getD, take, drop, set, drop-of-length-le}
-use lib.Seq.{take-suc-set, take-all, drop-cons, set-at, append-snoc, getD-at}
+use lib.Seq.{take-suc-set, take-all, drop-cons, set-at, set-getD, append-snoc, getD-at}
 use Rattle.lists.specs.Tab.{tabulate}
 
 module _ {ℓ} {A : Type ℓ} where
@@ -54,6 +54,12 @@ module _ {ℓ} {A : Type ℓ} where
       ap (λ (x : List A). set x i v) (e ∙ ap (λ (x : List A). tabulate i f ++ x) (drop-cons l i d h))
       ∙ set-at (tabulate i f) (getD l i d) (drop (suc i) l) v i (length-tabulate i f)
       ∙ (rw (q, add-one) (sym (ap (λ (x : List A). x ++ drop (suc i) l) (tabulate-snoc i f) ∙ append-snoc (tabulate i f) (f i) (drop (suc i) l))))
+
+  -- what stands at i is f i already
+  pub kept-same : (f : ℕ → A) (i : ℕ) (l : List A) (d : A) → i < length l → getD l i d ≡ f i → tabulate i f ++ drop i l ≡ tabulate (i + 1) f ++ drop (i + 1) l
+  kept-same f i l d h q =
+      let out = tabulate i f ++ drop i l in
+      sym (set-getD out i d) ∙ kept-more f i l out (getD out i d) d h (kept-read f i l out d h refl ∙ q) refl
 
   pub kept-all : (f : ℕ → A) (i : ℕ) (l out : List A) → i ≡ length l → out ≡ tabulate i f ++ drop i l → out ≡ tabulate (length l) f
   kept-all f i l out q e = e ∙ ap (λ (x : List A). tabulate i f ++ x) (drop-of-length-le l (le-of-eq (sym q))) ∙ append-nil (tabulate i f) ∙ ap (λ (n : ℕ). tabulate n f) q

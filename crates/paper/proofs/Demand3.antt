@@ -26,7 +26,9 @@ use Rattle.painter.specs.declared.Print.{Print}
 use Rattle.painter.proofs.Painted.{length-painted}
 use Rattle.painter.proofs.Printable.{good-print}
 use Rattle.reader.specs.Reading.{Tag, reading}
+use Rattle.listing.specs.Repeated.{givesId, givenElsewhere, inList}
 use Rattle.listing.specs.Listing.{rowOf, cornersOf, rowAt, butTurn}
+use Rattle.listing.proofs.Repeated.{elsewhere-ext}
 use Rattle.muosleap.specs.Likeness.{checkLikeness}
 use Rattle.muosleap_paint.specs.PaintTag.{Painting, paintTag}
 use Rattle.muosleap.specs.Quad.{decodeQuad, decodeQuadIn}
@@ -35,11 +37,12 @@ use Rattle.muosleap.proofs.Order.{quad-1, quad-read}
 use Rattle.muosleap.proofs.ListReading.{in-is}
 use Rattle.muosleap_paint.proofs.PaintTag.{paint-done, paint-accepted, paint-in}
 use Rattle.paper.specs.Starts.{fromStart}
+use Rattle.paper.specs.Others.{NoOther}
 use Rattle.paper.specs.Demand3.{Passes, misprints, Painted, printOrder, ownTag, ReadsOwn, OtherStart, Demand3}
 use Rattle.paper.proofs.Starts.{start-alike}
 use Rattle.paper.proofs.Clear.{Printed}
 use Rattle.paper.proofs.Painted.{painted-read}
-use Rattle.paper.proofs.Listed.{listed-alone}
+use Rattle.paper.proofs.Listed.{all, listed, listed-row}
 
 -- ---- what the hypotheses say
 
@@ -77,14 +80,17 @@ took plane frame edge border word print quad shown e =
 
 -- ---- painted tags
 
--- a start that reads alone as its own tag reads so in every list
+-- a start that reads alone as its own tag reads so in every list in which no other quad gives its id
 pub own-listed : (family : Family) (codes : List ℕ) (id word : ℕ) (frame : Frame) (quad : Quad) (shown : List ℕ) (s : ℕ)
     → decodeQuad shown frame family codes (turnedLeft s quad) ≡ accepted (ownTag codes id word quad s) → ReadsOwn family codes id word frame quad shown s
 own-listed family codes id word frame quad shown s alone = record {
   alone = alone;
-  listed = λ quads rows corners n i a l e.
-      let r = listed-alone shown frame family codes quads rows corners n i a l in
-      let o = ap (decodeQuad shown frame family codes) e ∙ alone in
+  listed = λ quads rows corners n i a l e none.
+      let own = ownTag codes id word quad s in
+      let o : decodeQuad shown frame family codes (quadAt quads i) ≡ accepted own = ap (decodeQuad shown frame family codes) e ∙ alone in
+      let same : (tag : Tag) → decodeQuad shown frame family codes (quadAt quads i) ≡ accepted tag → id ≡ tag .id = λ tag p. let q : accepted own ≡ accepted tag = sym o ∙ p in cc in
+      let r = listed-row shown frame family codes quads rows corners n (listed shown frame family codes quads rows corners n a) i l
+      .alone (λ tag p. subst (NoOther (λ j. decodeQuad shown frame family codes (quadAt quads j)) n i) (same tag p) none) in
       (r .0 ∙ ap rowOf o, r .1 ∙ ap cornersOf o);
 }
 
@@ -146,6 +152,20 @@ corners-alike : (s : ℕ) (o : Outcome Tag) → cornersOf o ≡ cornersOf (fromS
 corners-alike s (accepted tag) = refl
 corners-alike s (refused n) = refl
 
+-- another start gives the same id, and is refused by 18 with it
+id-alike : (s id : ℕ) (o : Outcome Tag) → givesId id o ≡ givesId id (fromStart s o)
+id-alike s id (accepted tag) = refl
+id-alike s id (refused n) = refl
+
+in-list-alike : (s : ℕ) (read other : List (Outcome Tag)) (i : ℕ) (o : Outcome Tag) → ((id : ℕ) → givenElsewhere read i id ≡ givenElsewhere other i id)
+    → fromStart s (inList read i o) ≡ inList other i (fromStart s o)
+in-list-alike s read other i (refused n) ids = refl
+in-list-alike s read other i (accepted tag) ids = go (givenElsewhere read i (tag .id)) ∙ ap (λ (b : Bool). cond b (refused 18) (fromStart s (accepted tag))) (ids (tag .id))
+  where
+    go : (b : Bool) → fromStart s (cond b (refused 18) (accepted tag)) ≡ cond b (refused 18) (fromStart s (accepted tag))
+    go true = refl
+    go false = refl
+
 module _ (plane : List ℕ) (frame : Frame) (family : Family) (codes : List ℕ) (passes : Passes family codes) where
   other-start : (a b : Quad) (o : OtherStart a b) → decodeQuad plane frame family codes b ≡ fromStart (o .start) (decodeQuad plane frame family codes a)
   other-start a b o =
@@ -157,13 +177,22 @@ module _ (plane : List ℕ) (frame : Frame) (family : Family) (codes : List ℕ)
       → (butTurn (rowAt (decodeQuads plane frame family codes quads rows corners .rows) i) ≡ butTurn (rowAt (decodeQuads plane frame family codes quads′ rows′ corners′ .rows) i))
       × (cornersAt (decodeQuads plane frame family codes quads rows corners .corners) i ≡ cornersAt (decodeQuads plane frame family codes quads′ rows′ corners′ .corners) i)
   lists-alike quads quads′ rows rows′ corners corners′ n n′ a a′ same starts i l =
-      let r = listed-alone plane frame family codes quads rows corners n i a l in
-      let r′ = listed-alone plane frame family codes quads′ rows′ corners′ n′ i a′ (subst (λ (m : ℕ). i < m) same l) in
+      let r = listed plane frame family codes quads rows corners n a in
+      let r′ = listed plane frame family codes quads′ rows′ corners′ n′ a′ in
+      let reads = all plane frame family codes quads in
+      let reads′ = all plane frame family codes quads′ in
+      let i′ = subst (λ (m : ℕ). i < m) same l in
       let o = starts i l in
-      let read = decodeQuad plane frame family codes (quadAt quads i) in
-      let other = other-start (quadAt quads i) (quadAt quads′ i) o in (
-        ap butTurn (r .0) ∙ row-alike (o .start) read ∙ ap (λ (x : Outcome Tag). butTurn (rowOf x)) (sym other) ∙ ap butTurn (sym (r′ .0)),
-        r .1 ∙ corners-alike (o .start) read ∙ ap cornersOf (sym other) ∙ sym (r′ .1),
+      let said = inList reads i (decodeQuad plane frame family codes (quadAt quads i)) in
+      let ids : (id : ℕ) → givenElsewhere reads i id ≡ givenElsewhere reads′ i id =
+      λ id. elsewhere-ext reads reads′ i id (r .size ∙ same ∙ sym (r′ .size))
+      (λ p b. let p< : p < n = subst (λ (m : ℕ). p < m) (r .size) b in
+      ap (givesId id) (r .each p p<) ∙ id-alike (starts p p< .start) id (decodeQuad plane frame family codes (quadAt quads p))
+      ∙ ap (givesId id) (sym (other-start (quadAt quads p) (quadAt quads′ p) (starts p p<)) ∙ sym (r′ .each p (subst (λ (m : ℕ). p < m) same p<)))) in
+      let other : fromStart (o .start) said ≡ inList reads′ i (decodeQuad plane frame family codes (quadAt quads′ i)) =
+      in-list-alike (o .start) reads reads′ i (decodeQuad plane frame family codes (quadAt quads i)) ids ∙ ap (inList reads′ i) (sym (other-start (quadAt quads i) (quadAt quads′ i) o)) in (
+        ap butTurn (r .row i l) ∙ row-alike (o .start) said ∙ ap (λ (x : Outcome Tag). butTurn (rowOf x)) other ∙ ap butTurn (sym (r′ .row i i′)),
+        r .corner i l ∙ corners-alike (o .start) said ∙ ap cornersOf other ∙ sym (r′ .corner i i′),
       )
 
 -- ---- by family number

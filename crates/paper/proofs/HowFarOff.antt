@@ -7,38 +7,29 @@ use native.Mathlib.Nat.{zero-add}
 use native.Mathlib.Omega.{arith}
 use borrow.Author.Tests.{ltb-true, ltb-false}
 use lib.Dec.{ltb}
-use lib.Ieee.{Float}
 use lib.ListN.{length, getD}
 use Rattle.lists.proofs.Bools.{or-right}
 use Rattle.refusals.specs.Outcome.{Outcome, accepted, refused}
 use Rattle.refusals.specs.Pixels.{badFrame}
 use Rattle.refusals.specs.declared.Frame.{Frame}
 use Rattle.points.specs.declared.Quad.{Quad}
-use Rattle.points.specs.Numbers.{quadAt, cornersAt}
 use Rattle.tables.specs.Table.{badTable, badBorder, badCodes}
 use Rattle.tables.specs.declared.Family.{Family}
 use Rattle.tables.proofs.Table.{good-codes}
 use Rattle.tag_families.specs.Families.{familyOf, codesOf}
 use Rattle.word.specs.Word.{turns, differing}
-use Rattle.places.specs.Corners.{badCorners, cornersOutside}
 use Rattle.places.specs.Place.{axesOf}
 use Rattle.levels.specs.Levels.{codeOf}
 use Rattle.search.specs.Search.{Seen, search}
 use Rattle.search.proofs.Search.{Means, search-means}
-use Rattle.reader.specs.Reading.{samplesInside, levelsOf, Tag, withCorners, tagOf, reading}
-use Rattle.reader.proofs.Order.{reading-8, reading-9, reading-10, reading-on}
-use Rattle.listing.specs.Listing.{Listing, rowOf, cornersOf, rowAt}
+use Rattle.reader.specs.Reading.{levelsOf, Tag, withCorners, tagOf, reading}
+use Rattle.reader.proofs.Order.{reading-cases}
 use Rattle.muosleap.specs.Codes.{bestTag}
 use Rattle.muosleap.specs.Quad.{decodeQuad, decodeQuadIn}
-use Rattle.muosleap.specs.Quads.{decodeQuadsIn}
 use Rattle.muosleap.proofs.Order.{quad-1, quad-6, quad-read, in-1, in-6}
-use Rattle.paper.proofs.Listed.{listed-alone}
 use Rattle.paper.proofs.Demand3.{demand-3}
+use Rattle.paper.proofs.Repeated.{refused-not, repeated}
 use Rattle.paper.specs.HowFarOff.{distance, FewestAnswered, PassedOn, HowFarOff}
-
--- no refusal is an answer
-refused-not : {A : Type 0} (n : ℕ) (a : A) (X : Type 0) → refused n ≡ accepted a → X
-refused-not n a X e = let z : _≡_ {A = ℕ} 0 1 = cc in absurd (omega arith)
 
 -- ---- the search
 
@@ -105,19 +96,10 @@ module _ (plane : List ℕ) (frame : Frame) (family : Family) (codes : List ℕ)
   from-word (refused n) p e = refused-not n tag Passed e
 
   from-reading : reading plane frame family codes quad ≡ accepted tag → Passed
-  from-reading e = corners (badCorners quad) refl
-    where
-      all : badCorners quad ≡ false → cornersOutside (frame .width) (frame .height) quad ≡ false → (t : Bool) → samplesInside frame family (axesOf quad) ≡ t → Passed
-      all b o false i = refused-not 10 tag Passed (sym (reading-10 plane frame family codes quad b o i) ∙ e)
-      all b o true i = from-word (codeOf (levelsOf plane frame family (axesOf quad)) 10 3) refl (sym (reading-on plane frame family codes quad b o i) ∙ e)
-
-      inside : badCorners quad ≡ false → (t : Bool) → cornersOutside (frame .width) (frame .height) quad ≡ t → Passed
-      inside b true o = refused-not 9 tag Passed (sym (reading-9 plane frame family codes quad b o) ∙ e)
-      inside b false o = all b o (samplesInside frame family (axesOf quad)) refl
-
-      corners : (t : Bool) → badCorners quad ≡ t → Passed
-      corners true b = refused-not 8 tag Passed (sym (reading-8 plane frame family codes quad b) ∙ e)
-      corners false b = inside b (cornersOutside (frame .width) (frame .height) quad) refl
+  from-reading =
+      reading-cases plane frame family codes quad (λ o. o ≡ accepted tag → Passed)
+      (refused-not 8 tag Passed) (refused-not 9 tag Passed) (refused-not 10 tag Passed)
+      (from-word (codeOf (levelsOf plane frame family (axesOf quad)) 10 3) refl)
 
 passed-on : (plane : List ℕ) (frame : Frame) (family : Family) (codes : List ℕ) (quad : Quad) (tag : Tag)
     → decodeQuad plane frame family codes quad ≡ accepted tag → PassedOn plane frame family codes quad tag
@@ -146,37 +128,13 @@ passed-on-in plane frame number quad tag e = known (ltb number 5) refl
     known true b = passed-on plane frame (familyOf number) (codesOf number) quad tag (sym (demand-3 .by-number number (ltb-true number 5 b) plane frame .0 quad) ∙ e)
     known false b = unknown (ltb-false number 5 b) (badFrame (length plane) frame) refl
 
--- ---- the list reader
-
-module _ (plane : List ℕ) (frame : Frame) (number : ℕ) (quads : List Float) (rows : List ℕ) (corners : List Float) (n i : ℕ) where
-  abbrev result : Listing
-  result = decodeQuadsIn plane frame number quads rows corners
-
-  abbrev read : Outcome Tag
-  read = decodeQuadIn plane frame number (quadAt quads i)
-
-  abbrev Alone : Type 0
-  Alone = (rowAt (result .rows) i ≡ rowOf read) × (cornersAt (result .corners) i ≡ cornersOf read)
-
-  -- no such family: the call is refused by 1 or by 6
-  no-family : ltb number 5 ≡ false → (f : Bool) → badFrame (length plane) frame ≡ f → result .answer ≡ refused (cond f 1 6)
-  unfolding decodeQuadsIn
-  no-family b true f = simp (f, b)
-  no-family b false f = simp (f, b)
-
-  listed-alone-in : result .answer ≡ accepted n → i < n → Alone
-  listed-alone-in a l = known (ltb number 5) refl
-    where
-      known : (b : Bool) → ltb number 5 ≡ b → Alone
-      known false b = let f = badFrame (length plane) frame in refused-not (cond f 1 6) n Alone (sym (no-family b f refl) ∙ a)
-      known true b =
-          let by = demand-3 .by-number number (ltb-true number 5 b) plane frame in
-          let whole = by .1 quads rows corners in
-          let alone = sym (by .0 (quadAt quads i)) in
-          let same = listed-alone plane frame (familyOf number) (codesOf number) quads rows corners n i (sym (ap (λ (x : Listing). x .answer) whole) ∙ a) l in (
-            ap (λ (x : Listing). rowAt (x .rows) i) whole ∙ same .0 ∙ ap rowOf alone,
-            ap (λ (x : Listing). cornersAt (x .corners) i) whole ∙ same .1 ∙ ap cornersOf alone,
-          )
+-- ---- the list reader: ticket 4 says what its rows are
 
 pub how-far-off : HowFarOff
-how-far-off = record { search = fewest-answered; quad = passed-on; quad-in = passed-on-in; list = listed-alone; list-in = listed-alone-in }
+how-far-off = record {
+  search = fewest-answered;
+  quad = passed-on;
+  quad-in = passed-on-in;
+  list = λ plane frame family codes quads rows corners n i a l. repeated .list plane frame family codes quads rows corners n i a l .alone;
+  list-in = λ plane frame number quads rows corners n i a l. repeated .list-in plane frame number quads rows corners n i a l .alone;
+}

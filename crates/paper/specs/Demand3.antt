@@ -1,5 +1,5 @@
 -- Demand 3, undivided, over the definitions that the public entries are proved equal to. Each hypothesis has its sentence beside it, of
--- document 01 ("What demand 3 compares"), of 02's ticket 2 or of the demand itself. Assumes nothing.
+-- document 01 ("What demand 3 compares"), of 02's tickets 2 and 4 or of the demand itself. Assumes nothing.
 use mathlib.Core.Path.{_≡_}
 use mathlib.Core.List.{List}
 use Prim.Native.Nat.{ℕ, _-_, _%_, _<_}
@@ -21,6 +21,7 @@ use Rattle.muosleap_paint.specs.PaintTag.{paintTag, paintTagIn}
 use Rattle.muosleap.specs.Quad.{decodeQuad, decodeQuadIn}
 use Rattle.muosleap.specs.Quads.{decodeQuads, decodeQuadsIn}
 use Rattle.paper.specs.Starts.{fromStart}
+use Rattle.paper.specs.Others.{NoOther}
 
 -- "every table that passes the likeness check": the entry's answer is that it passes
 abbrev pub Passes : Family → List ℕ → Type 0
@@ -61,9 +62,9 @@ pub record ReadsOwn (family : Family) (codes : List ℕ) (id word : ℕ) (frame 
   -- "Both the quad reader's answer ..
   pub alone : decodeQuad shown frame family codes (turnedLeft s quad) ≡ accepted (ownTag codes id word quad s)
   -- .. and this start's row and corner numbers, in every accepted list reading of this plane that holds it": at whatever position i and beside
-  -- whatever other quads
+  -- whatever other quads, "for each quad whose id no other quad of the list gives"
   pub listed : (quads : List Float) (rows : List ℕ) (corners : List Float) (n i : ℕ) → let result = decodeQuads shown frame family codes quads rows corners in
-      result .answer ≡ accepted n → i < n → quadAt quads i ≡ turnedLeft s quad
+      result .answer ≡ accepted n → i < n → quadAt quads i ≡ turnedLeft s quad → NoOther (λ j. decodeQuad shown frame family codes (quadAt quads j)) n i id
       → (rowAt (result .rows) i ≡ rowOf (accepted (ownTag codes id word quad s))) × (cornersAt (result .corners) i ≡ cornersOf (accepted (ownTag codes id word quad s)))
 
 -- ---- any quad on any plane

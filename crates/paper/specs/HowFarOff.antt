@@ -6,7 +6,7 @@ use mathlib.Core.List.{List}
 use Prim.Native.Nat.{ℕ, _≤_, _<_}
 use lib.Ieee.{Float}
 use lib.ListN.{length, getD}
-use Rattle.refusals.specs.Outcome.{accepted}
+use Rattle.refusals.specs.Outcome.{Outcome, accepted}
 use Rattle.refusals.specs.declared.Frame.{Frame}
 use Rattle.points.specs.declared.Quad.{Quad}
 use Rattle.points.specs.Numbers.{quadAt, cornersAt}
@@ -21,6 +21,7 @@ use Rattle.listing.specs.Listing.{rowOf, cornersOf, rowAt}
 use Rattle.muosleap.specs.Codes.{bestTag}
 use Rattle.muosleap.specs.Quad.{decodeQuad, decodeQuadIn}
 use Rattle.muosleap.specs.Quads.{decodeQuads, decodeQuadsIn}
+use Rattle.paper.specs.Others.{Unshared}
 
 -- in how many bits, of all 64, the word turned r times differs from the code at position k. A turn leaves no bit above the square, so such bits
 -- count at turn 0 alone
@@ -55,12 +56,12 @@ pub record HowFarOff : Type 0 where
       → decodeQuad plane frame family codes quad ≡ accepted tag → PassedOn plane frame family codes quad tag
   pub quad-in : (plane : List ℕ) (frame : Frame) (number : ℕ) (quad : Quad) (tag : Tag)
       → decodeQuadIn plane frame number quad ≡ accepted tag → PassedOn plane frame (familyOf number) (codesOf number) quad tag
-  -- "and the list reader": the row and the corner numbers of each quad are those of its reading alone
+  -- "and the list reader": the row and the corner numbers of each quad are those of its reading alone, where it shares its id with no other (ticket 4)
   pub list : (plane : List ℕ) (frame : Frame) (family : Family) (codes : List ℕ) (quads : List Float) (rows : List ℕ) (corners : List Float) (n i : ℕ)
       → let result = decodeQuads plane frame family codes quads rows corners in
-      let read = decodeQuad plane frame family codes (quadAt quads i) in
-      result .answer ≡ accepted n → i < n → (rowAt (result .rows) i ≡ rowOf read) × (cornersAt (result .corners) i ≡ cornersOf read)
+      let read : ℕ → Outcome Tag = λ j. decodeQuad plane frame family codes (quadAt quads j) in
+      result .answer ≡ accepted n → i < n → Unshared read n i → (rowAt (result .rows) i ≡ rowOf (read i)) × (cornersAt (result .corners) i ≡ cornersOf (read i))
   pub list-in : (plane : List ℕ) (frame : Frame) (number : ℕ) (quads : List Float) (rows : List ℕ) (corners : List Float) (n i : ℕ)
       → let result = decodeQuadsIn plane frame number quads rows corners in
-      let read = decodeQuadIn plane frame number (quadAt quads i) in
-      result .answer ≡ accepted n → i < n → (rowAt (result .rows) i ≡ rowOf read) × (cornersAt (result .corners) i ≡ cornersOf read)
+      let read : ℕ → Outcome Tag = λ j. decodeQuadIn plane frame number (quadAt quads j) in
+      result .answer ≡ accepted n → i < n → Unshared read n i → (rowAt (result .rows) i ≡ rowOf (read i)) × (cornersAt (result .corners) i ≡ cornersOf (read i))

@@ -47,7 +47,8 @@ pub record Shows (family : Family) (codes : List ℕ) (grid : Grid) (print : Pri
 pub record Reads (family : Family) (codes : List ℕ) (grid : Grid) (print : Print) (plane : List ℕ) (frame : Frame) (quad : Quad) (shown : List ℕ) (position s : ℕ) : Type 0 where
   -- "must read as the single painted tag does"
   pub as-single : decodeQuad shown frame family codes (turnedLeft s quad) ≡ decodeQuad (single family codes grid print plane frame position .plane) frame family codes (turnedLeft s quad)
-  -- alone and in every accepted list reading of the sheet that holds it, as demand 3 has it of the single tag; its own number is the position ..
+  -- alone and in every accepted list reading of the sheet that holds it, as demand 3 has it of the single tag, with ticket 4's condition; its own
+  -- number is the position ..
   pub own : ReadsOwn family codes position (getD codes position 0) frame quad shown s
   -- .. and no module is misprinted
   pub tag : ownTag codes position (getD codes position 0) quad s ≡ record { id = position; turn = ownTurn s; differing = 0; corners = printOrder quad }

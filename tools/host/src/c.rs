@@ -67,13 +67,13 @@ crossing! {
     );
 
     /// A reading of a list of quads with a lent table, as rows of refusal, id, turn, differing modules. Refusals 1, 6, 16; 8 to 13
-    /// stand in rows.
+    /// and 18, an id that another quad gives too, stand in rows.
     fn try_decode_quads(
         plane: &[u8], width: usize, height: usize, pitch: usize, edge: u8, border: u8, hamming_distance: u8, codes: &[u64],
         quads: &[f32], rows: &mut [u64], corners: &mut [f32]
     );
 
-    /// A reading of a list of quads by family number, as such rows. Refusals 1, 6, 16; 8 to 13 stand in rows.
+    /// A reading of a list of quads by family number, as such rows. Refusals 1, 6, 16; 8 to 13 and 18 stand in rows.
     fn try_decode_quads_in(
         plane: &[u8], width: usize, height: usize, pitch: usize, family: u8, quads: &[f32], rows: &mut [u64], corners: &mut [f32]
     );

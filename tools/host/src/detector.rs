@@ -16,6 +16,13 @@
 //! It is the picture that is read: a module that glare or noise turns counts as one that is worn. And a module that fades counts
 //! only once it shows the other shade. Before that it is unsure, and more than three unsure modules are refusal 12, a tag that
 //! fades as a whole refusal 11, while the number may still be 0: watch for these refusals too.
+//!
+//! # The same number twice
+//!
+//! In a list an id that two quads give is not trusted: each of these quads is refused with [`Refusal::RepeatedId`], 18, and none is
+//! picked. It tells that two sheets overlap, or that one tag was found twice. So lend each found quad once: a search that finds a
+//! tag twice, be it from two starts or as the very same quad, loses it. A quad that is refused by itself, 8 to 13, keeps its
+//! refusal; it gives no id, and makes no other quad 18. Reading one quad alone never gives 18.
 
 use crate::refusal::accepted;
 use crate::{Family, Picture, Quad, Refusal, Table, c};
@@ -157,7 +164,8 @@ impl Table<'_> {
         Ok(Tag { id, turn, differing, corners: corners.into() })
     }
 
-    /// Reads a list of quads: for each quad its tag, or why it was refused (8 to 13). The call's own refusals: 1, 6, 16.
+    /// Reads a list of quads: for each quad its tag, or why it was refused. That is 8 to 13 by itself, and 18 where another quad of the
+    /// list [gives the same id](self#the-same-number-twice). The call's own refusals: 1, 6, 16.
     ///
     /// ```
     /// use muosleap::{Picture, Print, Quad, Refusal, Table, painter::paint_tag};
@@ -166,11 +174,16 @@ impl Table<'_> {
     /// let mut picture = Picture::packed([0; 400], 20, 20);
     /// let print = Print { x: 1, y: 1, cell: 3, turn: 0, light: 220, dark: 30 };
     ///
-    /// // A tag with a misprinted module, read from its first corner and from its third.
+    /// // A tag with a misprinted module, read from its third corner.
     /// let quad = paint_tag(&mut picture, 4, 1, 0x231B ^ 1, &print)?;
-    /// let rows = table.try_decode_quads(&picture, &[quad, quad.started(2), Quad::from([0.0; 8]), Quad::from([20.0; 8])])?;
-    /// assert_eq!(rows[..2].iter().flatten().map(|tag| (tag.turn, tag.differing)).collect::<Vec<_>>(), [(0, 1), (2, 1)]);
-    /// assert_eq!(rows[2..], [Err(Refusal::LowContrast), Err(Refusal::CornerOutside)]);
+    /// let rows = table.try_decode_quads(&picture, &[quad.started(2), Quad::from([0.0; 8]), Quad::from([20.0; 8])])?;
+    /// let tag = rows[0].unwrap();
+    /// assert_eq!((tag.id, tag.turn, tag.differing), (0, 2, 1));
+    /// assert_eq!(rows[1..], [Err(Refusal::LowContrast), Err(Refusal::CornerOutside)]);
+    ///
+    /// // Found twice, from its first corner and from its third: neither is trusted.
+    /// let rows = table.try_decode_quads(&picture, &[quad, Quad::from([0.0; 8]), quad.started(2)])?;
+    /// assert_eq!(rows, [Err(Refusal::RepeatedId), Err(Refusal::LowContrast), Err(Refusal::RepeatedId)]);
     /// # Ok::<(), Refusal>(())
     /// ```
     pub fn try_decode_quads(
@@ -237,10 +250,11 @@ impl Family {
         Ok(Tag { id, turn, differing, corners: corners.into() })
     }
 
-    /// Reads a list of quads: for each quad its tag, or why it was refused (8 to 13). The call's own refusals: 1, 16.
+    /// Reads a list of quads: for each quad its tag, or why it was refused. That is 8 to 13 by itself, and 18 where another quad of the
+    /// list [gives the same id](self#the-same-number-twice). The call's own refusals: 1, 16.
     ///
     /// ```
-    /// use muosleap::{Family, Picture, Print, Quad, Refusal};
+    /// use muosleap::{Family, Grid, Picture, Print, Quad, Refusal, Table};
     ///
     /// // A tag with two misprinted modules.
     /// let family = Family::T36H11;
@@ -252,6 +266,15 @@ impl Family {
     /// let tag = rows[0].unwrap();
     /// assert_eq!((tag.id, tag.differing), (9, 2));
     /// assert_eq!(rows[1], Err(Refusal::CornerOutside));
+    ///
+    /// // A picture with two tags 7: which is the right one, if any, cannot be told. Tag 5 is read.
+    /// let [five, seven] = [5, 7].map(|id| family.codes()[id]);
+    /// let printed = Table { codes: &[seven, five, seven], ..family.table() };
+    /// let mut picture = Picture::packed(vec![0; 80 * 30], 80, 30);
+    /// let quads = printed.paint_sheet(&mut picture, &Grid { rows: 1, columns: 3, gap: 2 }, &Print { cell: 2, ..print })?;
+    /// let rows = family.try_decode_quads(&picture, &quads)?;
+    /// assert_eq!((rows[0], rows[2]), (Err(Refusal::RepeatedId), Err(Refusal::RepeatedId)));
+    /// assert_eq!(rows[1]?.id, 5);
     /// # Ok::<(), Refusal>(())
     /// ```
     pub fn try_decode_quads(

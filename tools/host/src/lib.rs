@@ -6,7 +6,8 @@
 //! code leaves to its host, the squares of [`board`], the [`files`], and sums about sizes, as in [`Grid::shape`].
 //!
 //! - [`Picture`]: an 8-bit picture, with or without filler behind its lines.
-//! - [`detector`]: words, levels and quads, by [`Family`] or by a [`Table`] of your own; and how a tag's [wear](detector#wear) shows.
+//! - [`detector`]: words, levels and quads, by [`Family`] or by a [`Table`] of your own; how a tag's [wear](detector#wear) shows; and
+//!   what comes of [the same number twice](detector#the-same-number-twice).
 //! - [`image_util`]: blur, response, threshold, clusters and their centres.
 //! - [`painter`]: paints a tag, or a sheet of tags. [`board`]: the squares that an aprilgrid board has beside its tags.
 //! - [`files`]: pictures as PGM and PNG.

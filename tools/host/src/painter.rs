@@ -93,7 +93,7 @@ impl Table<'_> {
     /// Fills the picture with light and paints a sheet: a grid of the table's codes, the first of them lower left, the next ones along
     /// a row and then upward; filler stays as it was. Answers the tags' outer corners in this order, each clockwise from the print's
     /// first. Where the table passes [the likeness check](Table::check_likeness), which is not made here, each tag is read under its
-    /// position. Refusals 1, 6, 14 for cell, turn and shades, 17.
+    /// position, in a list too where no other quad gives its id. Refusals 1, 6, 14 for cell, turn and shades, 17.
     ///
     /// ```
     /// use muosleap::{Grid, Picture, Print, Refusal, Table};

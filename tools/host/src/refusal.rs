@@ -106,6 +106,9 @@ refusals! {
         "a sheet's side of 0 or above 32 tags, a gap outside 1..16 cells, more tags than codes, or a grid that does not end at \
          least one pixel before the right and lower edges",
         "mend the grid: other sides or gap, a longer table, smaller cells, or a larger plane";
+    18 RepeatedId:
+        "another quad of the list gives the same id",
+        "two sheets overlap, or one tag was found twice: leave one sheet on the belt, or mend the quad search";
 }
 
 impl Refusal {

@@ -66,6 +66,7 @@ fn misprinted_modules_are_shown() {
         let (_, output) = demo("misprinted", &words.iter().map(OsStr::new).collect::<Vec<_>>());
         let told = String::from_utf8(output.stdout).unwrap();
         assert!(told.contains("Misprinted modules: 1 of tag 7, 2 of tag 22."), "{told}");
+        assert!(told.contains("Quads to tags: 144 quads in ") && told.contains(": four lists, one for each start, "), "{told}");
         let line = format!("  {read} of 144 rows read, {read} of them as painted: tag, and number of misprinted modules.\n");
         assert!(told.contains(&line), "{told}");
         let tags: Vec<String> = (0..36).map(|tag: usize| tag.to_string()).collect();

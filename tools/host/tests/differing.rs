@@ -188,22 +188,21 @@ fn a_refused_search_writes_nothing() {
     }
 }
 
-/// What all four starts of a quad say, alone and between others in a list: the same but for the turn, which follows the start.
+/// What all four starts of a quad say, alone and in a list between refused quads: the same but for the turn, which follows the start.
+/// In one list of all four, those that are read are refused with 18.
 fn four_starts(table: &Table, picture: &Picture<Vec<u8>>, quad: Quad) -> Result<Tag, Refusal> {
-    let outside = Quad::from([20_000.0; 8]);
+    let (outside, range) = (Quad::from([20_000.0; 8]), Err(Refusal::CornerRange));
     let starts = [0, 1, 2, 3].map(|start| quad.started(start));
-    let rows = table.try_decode_quads(picture, &[&[outside], &starts[..], &[outside, quad]].concat()).unwrap();
-    let [before, four @ .., behind, again] = &rows[..] else { panic!("a row is missing") };
-    assert_eq!([*before, *behind], [Err(Refusal::CornerRange); 2]);
     let first = table.try_decode_quad(picture, &quad);
-    assert_eq!(*again, first);
-    for (start, quad) in starts.iter().enumerate() {
-        let read = table.try_decode_quad(picture, quad);
-        assert_eq!(four[start], read);
+    for (start, &quad) in starts.iter().enumerate() {
+        let read = table.try_decode_quad(picture, &quad);
+        assert_eq!(table.try_decode_quads(picture, &[outside, quad, outside]), Ok(vec![range, read, range]));
         assert_eq!(read.map(|tag| tag.turn), first.map(|tag| (tag.turn + 4 - start as u8) % 4));
         let rest = |tag: Tag| (tag.id, tag.differing, tag.corners);
         assert_eq!(read.map(rest), first.map(rest));
     }
+    let together = first.and(Err(Refusal::RepeatedId));
+    assert_eq!(table.try_decode_quads(picture, &starts), Ok(vec![together; 4]));
     first
 }
 
@@ -305,24 +304,26 @@ fn a_row_has_four_numbers() {
     let family = Family::T36H11;
     let quad = family.paint_tag(&mut picture, family.codes()[586] ^ 1 << 35 ^ 1, &print).unwrap();
     let bad = |corner: f32| Quad::from([1.0, 1.0, corner, 1.0, corner, corner, 1.0, corner]);
-    let quads = [bad(f32::NAN), quad, bad(29.5), quad.started(1), quad.started(3), Quad::from([29.0; 8])];
-    let numbers: Vec<f32> = quads.iter().flat_map(|&quad| <[f32; 8]>::from(quad)).collect();
-    let expected = [[8, 0, 0, 0], [0, 586, 0, 2], [9, 0, 0, 0], [0, 586, 3, 2], [0, 586, 1, 2], [11, 0, 0, 0]];
-    for (answer, rows, corners) in (0..9).flat_map(|more| lists(&picture, &numbers, 24 + more, 48 + more)) {
-        assert_eq!((answer, &rows[..24]), (0, expected.as_flattened()));
-        assert!(rows[24..].iter().all(|&number| number == 99) && corners[48..].iter().all(|&number| number == 1.5));
-        for (row, corners) in expected.iter().zip(corners.chunks(8)) {
-            assert_eq!(corners.iter().all(|number| number.to_bits() == 0), row[0] != 0);
+    for start in 0..4 {
+        let quads = [bad(f32::NAN), quad.started(start), bad(29.5), Quad::from([29.0; 8])];
+        let numbers: Vec<f32> = quads.iter().flat_map(|&quad| <[f32; 8]>::from(quad)).collect();
+        let expected = [[8, 0, 0, 0], [0, 586, (4 - start as u64) % 4, 2], [9, 0, 0, 0], [11, 0, 0, 0]];
+        for (answer, rows, corners) in (0..9).flat_map(|more| lists(&picture, &numbers, 16 + more, 32 + more)) {
+            assert_eq!((answer, &rows[..16]), (0, expected.as_flattened()));
+            assert!(rows[16..].iter().all(|&number| number == 99) && corners[32..].iter().all(|&number| number == 1.5));
+            for (row, corners) in expected.iter().zip(corners.chunks(8)) {
+                assert_eq!(corners.iter().all(|number| number.to_bits() == 0), row[0] != 0);
+            }
         }
-    }
-    // One number short, three numbers a quad, none.
-    for rows in [23, 18, 12, 1, 0] {
-        for (answer, rows_after, corners) in lists(&picture, &numbers, rows, 48) {
-            assert_eq!((answer, rows_after, corners), (16, vec![99; rows], vec![1.5; 48]));
+        // One number short, three numbers a quad, none.
+        for rows in [15, 12, 8, 1, 0] {
+            for (answer, rows_after, corners) in lists(&picture, &numbers, rows, 32) {
+                assert_eq!((answer, rows_after, corners), (16, vec![99; rows], vec![1.5; 32]));
+            }
         }
-    }
-    for (answer, rows, corners) in lists(&picture, &numbers, 24, 47) {
-        assert_eq!((answer, rows, corners), (16, vec![99; 24], vec![1.5; 47]));
+        for (answer, rows, corners) in lists(&picture, &numbers, 16, 31) {
+            assert_eq!((answer, rows, corners), (16, vec![99; 16], vec![1.5; 31]));
+        }
     }
 }
 
@@ -332,9 +333,10 @@ fn the_longest_list_needs_4_096_numbers() {
     let print = Print { x: 3, y: 4, cell: 2, turn: 3, light: 200, dark: 20 };
     let quad = Family::T36H11.paint_tag(&mut picture, Family::T36H11.codes()[9] ^ 1 << 17, &print).unwrap();
     let numbers: Vec<f32> = (0..1_024).flat_map(|start| <[f32; 8]>::from(quad.started(start))).collect();
-    for (answer, rows, _) in lists(&picture, &numbers, 4_096, 8_192) {
-        let expected: Vec<u64> = (0..1_024).flat_map(|start| [0, 9, (4 - start % 4) % 4, 1]).collect();
-        assert!(answer == 0 && rows == expected);
+    // One tag in all 1,024 places, so each is refused with 18.
+    for (answer, rows, corners) in lists(&picture, &numbers, 4_096, 8_192) {
+        assert!(answer == 0 && rows == [[18, 0, 0, 0]; 1_024].as_flattened());
+        assert!(corners.iter().all(|number| number.to_bits() == 0));
     }
     for rows in [4_095, 3_072] {
         for (answer, rows_after, corners) in lists(&picture, &numbers, rows, 8_192) {

@@ -55,6 +55,7 @@ fn every_refusal_is_met() {
         bit_code(&[], 10, 3).map(|_| ()),
         Family::T16H5.try_decode_quads(&picture(&plane), &vec![tag; 1_025]).map(|_| ()),
         Family::T16H5.paint_sheet(&mut Picture::packed([0; 400], 20, 20), &Grid { gap: 0, ..GRID }, &PRINT).map(|_| ()),
+        Family::T16H5.try_decode_quads(&picture(&plane), &[tag, tag.started(1)]).unwrap()[0].map(|_| ()),
     ];
     let all: Vec<_> = REFUSALS.iter().map(|&refusal| Err(refusal)).collect();
     assert_eq!(met[..], all);
@@ -109,12 +110,19 @@ fn a_sheet_of_one_tag_is_that_tag() {
 #[test]
 fn a_list_has_a_row_for_each_quad() {
     let (plane, tag) = painted();
-    let list = [tag, quad(19.5), tag.started(2), quad(f32::INFINITY)];
-    let rows = Family::T16H5.try_decode_quads(&picture(&plane), &list).unwrap();
+    let read = |list: &[Quad]| {
+        let rows = Family::T16H5.try_decode_quads(&picture(&plane), list);
+        assert_eq!(Family::T16H5.table().try_decode_quads(&picture(&plane), list), rows);
+        rows.unwrap()
+    };
+    let list = [quad(19.5), tag.started(2), quad(f32::INFINITY)];
     let alone: Vec<_> = list.iter().map(|quad| Family::T16H5.try_decode_quad(&picture(&plane), quad)).collect();
-    assert_eq!(rows, alone);
-    assert_eq!(Family::T16H5.table().try_decode_quads(&picture(&plane), &list).unwrap(), alone);
-    assert_eq!(Family::T16H5.try_decode_quads(&picture(&plane), &[]), Ok(vec![]));
+    assert!(alone[1].is_ok());
+    assert_eq!(read(&list), alone);
+    // The tag a second time.
+    let twice = [Err(Refusal::RepeatedId), alone[0], Err(Refusal::RepeatedId), alone[2]];
+    assert_eq!(read(&[tag, list[0], list[1], list[2]]), twice);
+    assert_eq!(read(&[]), []);
 }
 
 #[test]

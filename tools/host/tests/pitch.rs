@@ -230,9 +230,12 @@ fn read_list(picture: &Picture<Vec<u8>>, family: Family, quads: &[[f32; 8]]) -> 
     all
 }
 
-/// What all four readers say to these quads.
-fn read(picture: &Picture<Vec<u8>>, family: Family, quads: &[[f32; 8]]) -> [Vec<u64>; 2] {
-    [quads.iter().flat_map(|quad| read_alone(picture, family, quad)).collect(), read_list(picture, family, quads)]
+/// What all four readers say to these quads: each alone, each in a list of its own, and all in one list, where those that are read
+/// with the same id are refused.
+fn read(picture: &Picture<Vec<u8>>, family: Family, quads: &[[f32; 8]]) -> [Vec<u64>; 3] {
+    let alone = quads.iter().flat_map(|quad| read_alone(picture, family, quad)).collect();
+    let own_lists = quads.iter().flat_map(|&quad| read_list(picture, family, &[quad])).collect();
+    [alone, own_lists, read_list(picture, family, quads)]
 }
 
 /// A painted tag with as many misprinted modules as are read, one with a pixel for each module, pictures that are refused at its
@@ -273,12 +276,15 @@ fn quads_about(quad: Quad, width: f32, height: f32) -> Vec<[f32; 8]> {
 
 #[test]
 fn padded_pictures_read_as_packed_ones() {
-    let mut seen = BTreeSet::new();
+    let (mut seen, mut listed, mut together) = (BTreeSet::new(), BTreeSet::new(), BTreeSet::new());
     for family in FAMILIES {
         let (pictures, quads) = scenes(family);
         for picture in pictures {
             let packed = read(&picture, family, &quads);
             seen.extend(packed[0].chunks(12).map(|answer| (answer[0], answer[3])));
+            // Of a list of one quad there are 17 numbers. The rows stand behind the answer, each with its refusal first.
+            listed.extend(packed[1].chunks(17).map(|list| list[1]));
+            together.extend(packed[2][1..].chunks(4).take(quads.len()).map(|row| row[0]));
             for stride in pitches(picture.width) {
                 for (kind, padded) in padded(&picture, stride).iter().enumerate() {
                     let before = padded.bytes.clone();
@@ -292,6 +298,8 @@ fn padded_pictures_read_as_packed_ones() {
     // Refusals, and differing modules, which stay as they were where a quad is refused.
     let refused = [8, 9, 10, 11, 12, 13].map(|number| (number, 66));
     assert_eq!(Vec::from_iter(seen), [&[(0, 0), (0, 1), (0, 2)], &refused[..]].concat());
+    assert_eq!(Vec::from_iter(listed), [0, 8, 9, 10, 11, 12, 13]);
+    assert!((8..=13).chain([18]).all(|number| together.contains(&number)), "{together:?}");
 }
 
 /// Both painters on a picture, with the answer and the bits of the quad.

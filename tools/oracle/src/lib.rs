@@ -6,6 +6,8 @@
 pub mod levels;
 #[cfg(original)]
 mod limits;
+#[cfg(original)]
+mod lists;
 pub mod out;
 #[cfg(original)]
 pub mod painter;

@@ -1,6 +1,7 @@
-//! Vectors of quads: the corner test, whole readings with the answer's corners, and lists of quads.
+//! Vectors of quads: the corner test, and whole readings with the answer's corners, alone and in lists.
 
 use crate::limits;
+use crate::lists::{lists, push_both};
 use crate::original::detector::{TagDetector, answer, bit_code, corners_inside, decode_positions, samples, turned};
 use crate::original::tag_families::TagFamily;
 use crate::out::{File, Frame, Numbers, SEED};
@@ -12,13 +13,18 @@ pub type Quad = [(f32, f32); 4];
 /// A reading: a refusal number, id, turn, the number of differing modules, and corners.
 pub type Reading = (u8, usize, u8, u8, Quad);
 
+/// A refusal: every other number is zero.
+pub fn refused(number: u8) -> Reading {
+    (number, 0, 0, 0, [(0.0, 0.0); 4])
+}
+
 /// A frame with a reading behind it.
 pub fn push_reading(frame: Frame, (refusal, id, turn, differing, corners): Reading) -> Frame {
     push_quad(push_found(frame, (refusal, id, turn, differing)), &corners)
 }
 
 pub fn files() -> Vec<File> {
-    vec![corner_tests(), readings(), refusals()]
+    vec![corner_tests(), readings(), lists(), refusals()]
 }
 
 pub fn push_quad(frame: Frame, quad: &Quad) -> Frame {
@@ -98,7 +104,7 @@ impl Picture {
         [(x - 0.5, y - 0.5), (x + far, y - 0.5), (x + far, y + far), (x - 0.5, y + far)]
     }
 
-    fn image(&self) -> GrayImage {
+    pub fn image(&self) -> GrayImage {
         GrayImage::from_raw(self.width as u32, self.height as u32, self.pixels.clone()).unwrap()
     }
 
@@ -130,7 +136,7 @@ impl Picture {
         let whole = detector.decode(&image, quad);
         let refused = |number: u8| {
             assert!(whole.is_none());
-            (number, 0, 0, 0, [(0.0, 0.0); 4])
+            refused(number)
         };
         let (width, height) = (self.width as u32, self.height as u32);
         let Some(places) = decode_positions(width, height, quad, detector.border(), detector.edge(), 0.5) else {
@@ -147,21 +153,19 @@ impl Picture {
         (0, id, turn, differing, corners)
     }
 
-    fn push(&self, file: &mut File, quads: Vec<Quad>) {
+    /// The picture, and the readings of quads.
+    pub fn push_readings(&self, file: &mut File, quads: &[Quad]) {
         file.push(Frame::new().u8(0).u16(self.width).u16(self.height).bytes(&self.pixels));
-        let quads: Vec<Quad> = quads.into_iter().filter(|quad| self.is_clear(quad)).collect();
-        for quad in &quads {
+        for quad in quads {
             let frame = push_quad(Frame::new().u8(1).u8(self.number), quad);
             file.push(push_reading(frame, self.read(quad)));
         }
-        file.push(self.list(&quads[..quads.len().min(20)]));
     }
 
-    /// A list of quads, with rows and corner numbers as document 01 has them of what the original says to each quad.
-    fn list(&self, quads: &[Quad]) -> Frame {
-        let frame = Frame::new().u8(2).u8(self.number).u8(quads.len() as u8);
-        let frame = quads.iter().fold(frame, push_quad);
-        quads.iter().map(|quad| self.read(quad)).fold(frame, push_reading)
+    fn push(&self, file: &mut File, quads: Vec<Quad>) {
+        let quads: Vec<Quad> = quads.into_iter().filter(|quad| self.is_clear(quad)).collect();
+        self.push_readings(file, &quads);
+        push_both(file, self, &quads);
     }
 }
 

@@ -103,24 +103,24 @@ impl<'a> Call<'a> {
         (plane, corners)
     }
 
-    /// Painted as the definition says, and every tag read at all starts, alone and in lists of at most 1,024 quads: id the position,
+    /// Painted as the definition says, and every tag read at all starts, alone and in lists that hold each tag once: id the position,
     /// turn (4 − s) modulo 4, no differing module, corners in print order, which is fourth, third, second, first.
     pub fn is_painted_and_read(&self) {
         let (plane, quads) = self.is_painted();
-        let (mut starts, mut rows, mut corners) = (Vec::new(), Vec::new(), Vec::new());
-        for start in 0..4 {
+        // Four lists, each at one start, and a fifth with all starts.
+        let start_of = |list: usize, position: usize| if list < 4 { list } else { position % 4 };
+        for list in 0..5 {
+            let (mut starts, mut rows, mut corners) = (Vec::new(), Vec::new(), Vec::new());
             for (position, quad) in quads.iter().enumerate() {
-                let mut started = *quad;
+                let (start, mut started) = (start_of(list, position), *quad);
                 started.rotate_left(2 * start);
+                let answer = ([0, position as u64, (4 - start as u64) % 4, 0], [6, 7, 4, 5, 2, 3, 0, 1].map(|place| quad[place]));
+                assert_eq!(self.read(&plane, &started), answer, "{self:?}");
                 starts.push(started);
-                rows.push([0, position as u64, (4 - start as u64) % 4, 0]);
-                corners.push([6, 7, 4, 5, 2, 3, 0, 1].map(|place| quad[place]));
-                assert_eq!(self.read(&plane, &started), (rows[rows.len() - 1], corners[corners.len() - 1]), "{self:?}");
+                rows.push(answer.0);
+                corners.push(answer.1);
             }
-        }
-        let expected = rows.chunks(1_024).zip(corners.chunks(1_024));
-        for (list, (rows, corners)) in starts.chunks(1_024).zip(expected) {
-            assert!(self.read_list(&plane, list) == (rows.to_vec(), corners.to_vec()), "in a list: {self:?}");
+            assert!(self.read_list(&plane, &starts) == (rows, corners), "in a list: {self:?}");
         }
     }
 

@@ -1,5 +1,5 @@
 //! Sheets, through the C interface: every pixel and every quad is that of a definition of its own (definition.rs), every tag is read
-//! under its position at all starts, alone and in lists, and what is refused changes nothing.
+//! under its position at all starts, alone and in lists of the whole sheet, and what is refused changes nothing.
 
 mod call;
 mod definition;

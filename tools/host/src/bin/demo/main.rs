@@ -62,7 +62,8 @@ struct Found {
 }
 
 impl Found {
-    /// The main job: picture to clusters to centres, and quads to rows.
+    /// The main job: picture to clusters to centres, and quads to rows. Each start has a list of its own: in a list a tag that is read
+    /// twice is refused (18).
     fn read(camera: &Camera, saddles: &mut Saddles) -> Result<Found, Refusal> {
         let samples = to_unit(&camera.picture);
         let start = Instant::now();
@@ -70,10 +71,13 @@ impl Found {
         let (clusters, clustered) = (found.len(), start.elapsed());
         let centers: Vec<Point> = found.map(|cluster| cluster.center()).collect::<Result<_, _>>()?;
         let quads: Vec<Quad> = camera.quads.iter().map(|quad| near(quad, &centers)).collect();
-        let starts: Vec<Quad> = quads.iter().flat_map(|&quad| (0..4).map(move |start| quad.started(start))).collect();
+        let starts = [0, 1, 2, 3].map(|start| quads.iter().map(|quad| quad.started(start)).collect::<Vec<Quad>>());
         let start = Instant::now();
-        let rows = FAMILY.try_decode_quads(&camera.picture, &starts)?;
-        Ok(Found { clusters, quads, rows, times: [clustered, start.elapsed()] })
+        let lists = starts.map(|list| FAMILY.try_decode_quads(&camera.picture, &list));
+        let read = start.elapsed();
+        let lists = lists.into_iter().collect::<Result<Vec<_>, _>>()?;
+        let rows = (0..quads.len()).flat_map(|tag| lists.iter().map(move |list| list[tag])).collect();
+        Ok(Found { clusters, quads, rows, times: [clustered, read] })
     }
 }
 
@@ -88,7 +92,7 @@ fn print_summary(options: &Options, camera: &Camera, found: &Found) {
     println!("Its lines begin {stride} bytes after one another (pitch); {} bytes between them are filler.\n", camera.filler());
     println!("Picture to clusters: {} clusters in {clustered:.1} ms (blur, response, threshold, clusters).", found.clusters);
     println!("Each tag's corners are the cluster centres nearest to where they were painted, at most {away:.2} pixel away.");
-    println!("Quads to tags: {} quads in {read:.2} ms, each tag from all four starts.\n", found.rows.len());
+    println!("Quads to tags: {} quads in {read:.2} ms: four lists, one for each start, with each tag once.\n", found.rows.len());
 }
 
 fn distance(p: Point, q: Point) -> f32 {

@@ -1,0 +1,118 @@
+-- Ticket 4 of document 02: what 18 means, and that the list of a sheet's quads reads whole. Assumes nothing.
+use mathlib.Core.Path.{_≡_, refl, sym, ap, _∙_, subst}
+use mathlib.Core.Bool.{Bool, true, false, cond}
+use mathlib.Core.List.{List}
+use Prim.Native.Nat.{ℕ, _<_}
+use native.Mathlib.Omega.{arith}
+use borrow.Author.Tests.{ltb-true, ne-eqb}
+use lib.Dec.{ltb}
+use lib.Ieee.{Float}
+use lib.ListN.{length}
+use Rattle.refusals.specs.Outcome.{Outcome, accepted, refused}
+use Rattle.refusals.specs.Pixels.{badFrame}
+use Rattle.refusals.specs.declared.Frame.{Frame}
+use Rattle.points.specs.declared.Quad.{Quad}
+use Rattle.points.specs.Numbers.{quadAt, cornersAt}
+use Rattle.tables.specs.Table.{badTable}
+use Rattle.tables.specs.declared.Family.{Family}
+use Rattle.tag_families.specs.Families.{familyOf, codesOf}
+use Rattle.painter.specs.declared.Print.{Print}
+use Rattle.grid.specs.Quads.{tagCount}
+use Rattle.grid.specs.declared.Grid.{Grid}
+use Rattle.reader.specs.Reading.{Tag}
+use Rattle.reader.proofs.Answers.{Answers, reading-answers}
+use Rattle.listing.specs.Repeated.{givesId}
+use Rattle.listing.specs.Listing.{Listing, rowOf, cornersOf, rowAt}
+use Rattle.muosleap.specs.Quad.{decodeQuad, decodeQuadIn}
+use Rattle.muosleap.specs.Quads.{decodeQuads, decodeQuadsIn}
+use Rattle.muosleap.proofs.Order.{quad-1, quad-6, quad-read}
+use Rattle.paper.specs.Others.{NoOther}
+use Rattle.paper.specs.Demand3.{Passes, printOrder, ownTurn}
+use Rattle.paper.specs.Sheet.{SheetPainted, Reads}
+use Rattle.paper.specs.Repeated.{Row, EachOnce, Repeated}
+use Rattle.paper.proofs.Listed.{listed, listed-row}
+use Rattle.paper.proofs.Demand3.{demand-3}
+use Rattle.paper.proofs.Sheet.{sheets-read}
+
+-- no refusal is an answer
+pub refused-not : {A : Type 0} (n : ℕ) (a : A) (X : Type 0) → refused n ≡ accepted a → X
+refused-not n a X e = let z : _≡_ {A = ℕ} 0 1 = cc in absurd (omega arith)
+
+-- ---- by family number
+
+module _ (plane : List ℕ) (frame : Frame) (number : ℕ) (quads : List Float) (rows : List ℕ) (corners : List Float) (n i : ℕ) where
+  abbrev result : Listing
+  result = decodeQuadsIn plane frame number quads rows corners
+
+  abbrev RowIn : Type 0
+  RowIn = Row (λ j. decodeQuadIn plane frame number (quadAt quads j)) n i (rowAt (result .rows) i) (cornersAt (result .corners) i)
+
+  -- no such family: the call is refused by 1 or by 6
+  no-family : ltb number 5 ≡ false → (f : Bool) → badFrame (length plane) frame ≡ f → result .answer ≡ refused (cond f 1 6)
+  unfolding decodeQuadsIn
+  no-family b true f = simp (f, b)
+  no-family b false f = simp (f, b)
+
+  pub row-in : result .answer ≡ accepted n → i < n → RowIn
+  row-in a l = known (ltb number 5) refl
+    where
+      known : (b : Bool) → ltb number 5 ≡ b → RowIn
+      known false b = let f = badFrame (length plane) frame in refused-not (cond f 1 6) n RowIn (sym (no-family b f refl) ∙ a)
+      known true b =
+          let by = demand-3 .by-number number (ltb-true number 5 b) plane frame in
+          let whole = by .1 quads rows corners in
+          let lent = listed plane frame (familyOf number) (codesOf number) quads rows corners n (sym (ap (λ (x : Listing). x .answer) whole) ∙ a) in
+          subst (λ (x : Listing). Row (λ j. decodeQuadIn plane frame number (quadAt quads j)) n i (rowAt (x .rows) i) (cornersAt (x .corners) i)) (sym whole)
+          (subst (λ (read : ℕ → Outcome Tag). let x = decodeQuads plane frame (familyOf number) (codesOf number) quads rows corners in Row read n i (rowAt (x .rows) i) (cornersAt (x .corners) i))
+          (λ k j. sym (by .0 (quadAt quads j)) k)
+          (listed-row plane frame (familyOf number) (codesOf number) quads rows corners n lent i l))
+
+-- ---- one quad
+
+one-quad : (plane : List ℕ) (frame : Frame) (family : Family) (codes : List ℕ) (quad : Quad) → decodeQuad plane frame family codes quad ≡ refused 18 → ⊥
+one-quad plane frame family codes quad e = framed (badFrame (length plane) frame) refl
+  where
+    other : (n : ℕ) → (n ≡ 18 → ⊥) → decodeQuad plane frame family codes quad ≡ refused n → ⊥
+    other n h f = let same : _≡_ {A = Outcome Tag} (refused n) (refused 18) = sym f ∙ e in h (cc)
+
+    tabled : badFrame (length plane) frame ≡ false → (t : Bool) → badTable family codes ≡ t → ⊥
+    tabled f true t = other 6 (λ z. omega arith) (quad-6 plane frame family codes quad f t)
+    tabled f false t =
+        let among = subst (Answers codes) (sym (quad-read plane frame family codes quad f t) ∙ e) (reading-answers family codes t quad plane frame) in
+        omega (arith, among .1)
+
+    framed : (f : Bool) → badFrame (length plane) frame ≡ f → ⊥
+    framed true f = other 1 (λ z. omega arith) (quad-1 plane frame family codes quad f)
+    framed false f = tabled f (badTable family codes) refl
+
+-- ---- a sheet
+
+module _ (family : Family) (codes : List ℕ) (grid : Grid) (print : Print) (plane : List ℕ) (frame : Frame) (output : List Float) (shown : List ℕ) (written : List Float)
+    (took : SheetPainted family codes grid print plane frame output shown written) (passes : Passes family codes) (quads : List Float) (rows : List ℕ) (corners : List Float) (n : ℕ)
+    (a : decodeQuads shown frame family codes quads rows corners .answer ≡ accepted n) (each : EachOnce written quads (tagCount grid) n) where
+  -- what the sheet's law says of the tag that place i of the list holds
+  tag-at : (i : ℕ) → i < n → Reads family codes grid print plane frame (quadAt written (each .position i)) shown (each .position i) (each .start i)
+  tag-at i l = sheets-read .reads family codes grid print plane frame output shown written took passes (each .position i) (each .known i l) (each .start i) (each .start-lt i l)
+
+  -- no other quad of the list is of this position
+  none-other : (i : ℕ) → i < n → NoOther (λ j. decodeQuad shown frame family codes (quadAt quads j)) n i (each .position i)
+  none-other i l j m d =
+      ap (givesId (each .position i)) (ap (decodeQuad shown frame family codes) (each .quad j m) ∙ tag-at j m .own .alone)
+      ∙ ne-eqb (each .position j) (each .position i) (λ e. d (each .once j i m l e))
+
+  whole : (i : ℕ) → i < n → let position = each .position i in
+      let tag : Tag = record { id = position; turn = ownTurn (each .start i); differing = 0; corners = printOrder (quadAt written position) } in
+      (rowAt (decodeQuads shown frame family codes quads rows corners .rows) i ≡ rowOf (accepted tag)) × (cornersAt (decodeQuads shown frame family codes quads rows corners .corners) i ≡ cornersOf (accepted tag))
+  whole i l =
+      let r = tag-at i l in
+      let o = r .own .listed quads rows corners n i a l (each .quad i l) (none-other i l) in
+      (o .0 ∙ ap (λ (t : Tag). rowOf (accepted t)) (r .tag), o .1 ∙ ap (λ (t : Tag). cornersOf (accepted t)) (r .tag))
+
+pub repeated : Repeated
+repeated = record {
+  list = λ plane frame family codes quads rows corners n i a l.
+      listed-row plane frame family codes quads rows corners n (listed plane frame family codes quads rows corners n a) i l;
+  list-in = row-in;
+  one-quad = one-quad;
+  sheet = whole;
+}

@@ -1,0 +1,58 @@
+-- What a reading can answer: an id that the table has, or a refusal from 8 to 13. Assumes nothing.
+use mathlib.Core.Path.{_≡_}
+use mathlib.Core.Bool.{Bool, true, false, cond}
+use mathlib.Core.List.{List}
+use Prim.Native.Nat.{ℕ, _-_, _≤_, _<_}
+use native.Mathlib.Omega.{arith}
+use lib.Dec.{ltb}
+use lib.ListN.{length}
+use Rattle.refusals.specs.Outcome.{Outcome, accepted, refused}
+use Rattle.refusals.specs.declared.Frame.{Frame}
+use Rattle.points.specs.declared.Quad.{Quad}
+use Rattle.tables.specs.Table.{badTable}
+use Rattle.tables.specs.declared.Family.{Family}
+use Rattle.tables.proofs.Table.{good-table}
+use Rattle.places.specs.Place.{axesOf}
+use Rattle.levels.specs.Levels.{leastOf, greatestOf, middleOf, wordOf, unsureOf, codeOf}
+use Rattle.search.specs.Search.{Seen, search}
+use Rattle.search.proofs.Search.{Means, search-means}
+use Rattle.reader.specs.Reading.{levelsOf, Tag, withCorners, tagOf, reading}
+use Rattle.reader.proofs.Order.{reading-cases}
+
+abbrev pub Answers : List ℕ → Outcome Tag → Type 0
+Answers codes (accepted tag) = tag .id < length codes
+Answers codes (refused n) = (8 ≤ n) × (n ≤ 13)
+
+-- levels are refused by 11 or 12
+Bits : Outcome ℕ → Type 0
+Bits (accepted word) = 0 ≤ word
+Bits (refused n) = (8 ≤ n) × (n ≤ 13)
+
+code-answers : (levels : List ℕ) (band allowed : ℕ) → Bits (codeOf levels band allowed)
+unfolding codeOf Bits
+code-answers levels band allowed = go (ltb (greatestOf levels - leastOf levels) 50) (ltb allowed (unsureOf (middleOf levels) band levels))
+  where
+    go : (a b : Bool) → Bits (cond a (refused 11) (cond b (refused 12) (accepted (wordOf (middleOf levels) levels))))
+    go true b = (omega arith, omega arith)
+    go false true = (omega arith, omega arith)
+    go false false = omega arith
+
+module _ (family : Family) (codes : List ℕ) (table : badTable family codes ≡ false) (quad : Quad) where
+  -- a word is refused by 13
+  seen-answers : (word : ℕ) (o : Outcome Seen) → Means (family .«hamming_distance») codes (family .edge) 4 0 word o → Answers codes (withCorners quad o)
+  seen-answers word (accepted seen) m = m .code .inside
+  seen-answers word (refused n) m = (omega (arith, m .thirteen), omega (arith, m .thirteen))
+
+  tag-answers : (o : Outcome ℕ) → Bits o → Answers codes (tagOf family codes quad o)
+  unfolding tagOf Bits
+  tag-answers (accepted word) b =
+      let near = good-table family codes table .coded .near .most in
+      seen-answers word (search word (family .«hamming_distance») codes (family .edge)) (search-means (family .«hamming_distance») codes (family .edge) (omega arith) word)
+  tag-answers (refused n) b = b
+
+  pub reading-answers : (plane : List ℕ) (frame : Frame) → Answers codes (reading plane frame family codes quad)
+  reading-answers plane frame =
+      let levels = levelsOf plane frame family (axesOf quad) in
+      reading-cases plane frame family codes quad (Answers codes)
+      (omega arith, omega arith) (omega arith, omega arith) (omega arith, omega arith)
+      (tag-answers (codeOf levels 10 3) (code-answers levels 10 3))
