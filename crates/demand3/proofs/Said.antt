@@ -1,7 +1,7 @@
 -- Demand 3 of the definitions, carried to answers that equal them. Assumes nothing.
 use mathlib.Core.Path.{_≡_, refl, sym, ap, ap₂, _∙_}
 use mathlib.Core.List.{List}
-use Prim.Native.Nat.{ℕ, zero, suc, _<_}
+use Prim.Native.Nat.{ℕ, _<_}
 use lib.Ieee.{Float}
 use native.Mathlib.Omega.{arith}
 use Rattle.refusals.specs.Outcome.{Outcome, accepted}
@@ -11,14 +11,15 @@ use Rattle.points.specs.Turned.{turnedLeft}
 use Rattle.tables.specs.declared.Family.{Family}
 use Rattle.painter.specs.declared.Print.{Print}
 use Rattle.reader.specs.Reading.{Tag}
-use Rattle.points.specs.Numbers.{quadAt, cornersAt}
+use Rattle.points.specs.Numbers.{quadAt, numbersOf, cornersAt}
 use Rattle.listing.specs.Listing.{Listing, rowAt}
 use Rattle.muosleap_paint.specs.PaintTag.{Painting, paintTag}
 use Rattle.muosleap.specs.Quad.{decodeQuad}
 use Rattle.muosleap.specs.Quads.{decodeQuads}
+use Rattle.muosleap.proofs.ListReading.{accepted-means}
 use Rattle.paper.specs.Starts.{fromStart}
 use Rattle.paper.proofs.Demand3.{demand-3}
-use Rattle.demand3.specs.Said.{readPrint, PaintedThenRead, StartsRead, startNumbers, listPrint, StartsListed}
+use Rattle.demand3.specs.Said.{readPrint, PaintedThenRead, StartsRead, listPrint, StartListed}
 
 -- a painting that answers and leaves what `paintTag` says, and a reading of what it left
 pub painted-then-read : (plane : List ℕ) (frame : Frame) (family : Family) (codes : List ℕ) (word : ℕ) (print : Print) (s : ℕ) (painting : Outcome Quad) (left : List ℕ) (answer : Outcome Tag)
@@ -60,33 +61,33 @@ starts-read plane frame family codes quad s0 s1 s2 s3 e0 e1 e2 e3 =
       );
     }
 
--- quad s of the list is start s
-starts-are : (q : Quad) (s : ℕ) → s < 4 → quadAt (startNumbers q) s ≡ turnedLeft s q
-unfolding turnedLeft
-starts-are q zero h = refl
-starts-are q (suc zero) h = refl
-starts-are q (suc (suc zero)) h = refl
-starts-are q (suc (suc (suc zero))) h = refl
-starts-are q (suc (suc (suc (suc s)))) h = absurd (omega arith)
+-- a list of one quad is that quad
+one-quad : (q : Quad) → quadAt (numbersOf q) 0 ≡ q
+one-quad q = refl
 
 -- a painting that answers and leaves what `paintTag` says, and a list reading of what it left
-pub starts-listed : (plane : List ℕ) (frame : Frame) (family : Family) (codes : List ℕ) (word : ℕ) (print : Print) (rows : List ℕ) (corners : List Float) (painting : Outcome Quad) (left : List ℕ) (result : Listing)
+pub start-listed : (plane : List ℕ) (frame : Frame) (family : Family) (codes : List ℕ) (word : ℕ) (print : Print) (s : ℕ) (rows : List ℕ) (corners : List Float)
+    (painting : Outcome Quad) (left : List ℕ) (result : Listing)
     → _≡_ {A = Painting} (record { answer = painting; plane = left }) (paintTag plane frame (family .edge) (family .border) word print)
-    → result ≡ listPrint frame family codes rows corners left painting
-    → StartsListed plane frame family codes word print rows corners left result
-starts-listed plane frame family codes word print rows corners painting left result e r =
+    → result ≡ listPrint frame family codes s rows corners left painting
+    → StartListed plane frame family codes word print s rows corners left result
+start-listed plane frame family codes word print s rows corners painting left result e r =
     record {
       shown = ap (λ (x : Painting). x .plane) e;
-      read = r ∙ ap (listPrint frame family codes rows corners left) (ap (λ (x : Painting). x .answer) e);
-      own = λ id quad picture h n s a l start.
+      read = r ∙ ap (listPrint frame family codes s rows corners left) (ap (λ (x : Painting). x .answer) e);
+      own = λ id quad picture h start n a.
           let both : _≡_ {A = Painting} (record { answer = painting; plane = left }) (record { answer = accepted quad; plane = picture }) = e ∙ h .painted in
           let same : left ≡ picture = ap (λ (x : Painting). x .plane) both in
           let took : painting ≡ accepted quad = ap (λ (x : Painting). x .answer) both in
-          let whole : result ≡ decodeQuads picture frame family codes (startNumbers quad) rows corners
-          = r ∙ ap₂ (λ (l : List ℕ) (o : Outcome Quad). listPrint frame family codes rows corners l o) same took in
+          let list = numbersOf (turnedLeft s quad) in
+          let whole : result ≡ decodeQuads picture frame family codes list rows corners
+          = r ∙ ap₂ (λ (l : List ℕ) (o : Outcome Quad). listPrint frame family codes s rows corners l o) same took in
+          let accepts = sym (ap (λ (x : Listing). x .answer) whole) ∙ a in
+          let one : n ≡ 1 = accepted-means picture frame list rows corners family codes n accepts .count in
           let own = demand-3 .painted-tags family codes id word plane frame print quad picture h s start
-          .listed (startNumbers quad) rows corners n s (sym (ap (λ (x : Listing). x .answer) whole) ∙ a) l (starts-are quad s start) in (
-            ap (λ (x : Listing). rowAt (x .rows) s) whole ∙ own .0,
-            ap (λ (x : Listing). cornersAt (x .corners) s) whole ∙ own .1,
+          .listed list rows corners n 0 accepts (omega arith) (one-quad (turnedLeft s quad)) (λ j l d. absurd (d (omega arith))) in (
+            one,
+            ap (λ (x : Listing). rowAt (x .rows) 0) whole ∙ own .0,
+            ap (λ (x : Listing). cornersAt (x .corners) 0) whole ∙ own .1,
           );
     }

@@ -1,12 +1,12 @@
 -- What demand 3 says of the functions that paint and read. `paper`'s Demand3 has the words that are used here. Assumes nothing.
 use mathlib.Core.Path.{_≡_}
-use mathlib.Core.List.{List, _++_}
+use mathlib.Core.List.{List}
 use Prim.Native.Nat.{ℕ, _<_}
+use lib.Ieee.{Float}
 use Rattle.refusals.specs.Outcome.{Outcome, accepted, refused}
 use Rattle.refusals.specs.declared.Frame.{Frame}
 use Rattle.points.specs.declared.Quad.{Quad}
-use lib.Ieee.{Float}
-use Rattle.points.specs.Turned.{turnedOnce, turnedLeft}
+use Rattle.points.specs.Turned.{turnedLeft}
 use Rattle.points.specs.Numbers.{numbersOf, cornersAt}
 use Rattle.tables.specs.declared.Family.{Family}
 use Rattle.painter.specs.declared.Print.{Print}
@@ -45,20 +45,16 @@ pub record StartsRead (plane : List ℕ) (frame : Frame) (family : Family) (code
   -- give one id and the same corners, and start s the turn of start 0 less s, modulo 4", and one number of differing modules
   pub alike : Passes family codes → (s1 ≡ fromStart 1 s0) × (s2 ≡ fromStart 2 s0) × (s3 ≡ fromStart 3 s0)
 
--- the four starts of a quad as a list of quads
-abbrev pub startNumbers : Quad → List Float
-startNumbers q = numbersOf q ++ (numbersOf (turnedOnce q) ++ (numbersOf (turnedOnce (turnedOnce q)) ++ numbersOf (turnedOnce (turnedOnce (turnedOnce q)))))
+-- the list reading of start s of the painter's quad, alone in its list; where the painter refuses, its number stands and both outputs are as they were
+abbrev pub listPrint : Frame → Family → List ℕ → ℕ → List ℕ → List Float → List ℕ → Outcome Quad → Listing
+listPrint frame family codes s rows corners shown (accepted quad) = decodeQuads shown frame family codes (numbersOf (turnedLeft s quad)) rows corners
+listPrint frame family codes s rows corners shown (refused n) = listingOf (refused n) rows corners
 
--- the list reading of the four starts of the painter's quad; where the painter refuses, its number stands and both outputs are as they were
-abbrev pub listPrint : Frame → Family → List ℕ → List ℕ → List Float → List ℕ → Outcome Quad → Listing
-listPrint frame family codes rows corners shown (accepted quad) = decodeQuads shown frame family codes (startNumbers quad) rows corners
-listPrint frame family codes rows corners shown (refused n) = listingOf (refused n) rows corners
-
--- a tag is painted and its four starts read as a list, with this plane left and this result
-pub record StartsListed (plane : List ℕ) (frame : Frame) (family : Family) (codes : List ℕ) (word : ℕ) (print : Print) (rows : List ℕ) (corners : List Float) (left : List ℕ) (result : Listing) : Type 0 where
+-- a tag is painted and its start s read in a list of its own, with this plane left and this result
+pub record StartListed (plane : List ℕ) (frame : Frame) (family : Family) (codes : List ℕ) (word : ℕ) (print : Print) (s : ℕ)
+    (rows : List ℕ) (corners : List Float) (left : List ℕ) (result : Listing) : Type 0 where
   pub shown : left ≡ paintTag plane frame (family .edge) (family .border) word print .plane
-  pub read : result ≡ listPrint frame family codes rows corners left (paintTag plane frame (family .edge) (family .border) word print .answer)
-  -- "and this start's row and corner numbers, in every accepted list reading of this plane that holds it"
-  pub own : (id : ℕ) (quad : Quad) (picture : List ℕ) → Painted family codes id word plane frame print quad picture
-      → (n s : ℕ) → result .answer ≡ accepted n → s < n → s < 4
-      → (rowAt (result .rows) s ≡ rowOf (accepted (ownTag codes id word quad s))) × (cornersAt (result .corners) s ≡ cornersOf (accepted (ownTag codes id word quad s)))
+  pub read : result ≡ listPrint frame family codes s rows corners left (paintTag plane frame (family .edge) (family .border) word print .answer)
+  -- "and this start's row and corner numbers, in every accepted list reading of this plane that holds it"; no other quad is in this list
+  pub own : (id : ℕ) (quad : Quad) (picture : List ℕ) → Painted family codes id word plane frame print quad picture → s < 4 → (n : ℕ) → result .answer ≡ accepted n
+      → (n ≡ 1) × (rowAt (result .rows) 0 ≡ rowOf (accepted (ownTag codes id word quad s))) × (cornersAt (result .corners) 0 ≡ cornersOf (accepted (ownTag codes id word quad s)))

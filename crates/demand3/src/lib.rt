@@ -1,10 +1,12 @@
-// Demand 3 said of the code: functions that paint a tag and then read it, and that read the four starts of a quad; and 02's ticket 3: one
-// that paints a sheet and reads a quad of it. They are no public entries. specs/Said.antt and specs/Sheet.antt say what is proved of them.
+// Demand 3 said of the code: functions that paint a tag and then read it, alone and in a list, and that read the four starts of a quad; and
+// 02's tickets 3 and 4: one that paints a sheet and reads a quad of it, and one that reads the list of all of them. They are no public
+// entries. specs/Said.antt and specs/Sheet.antt say what is proved of them.
 use grid::Grid;
 use muosleap::quads::Listed;
 use muosleap_paint::painting::Painted;
 use muosleap_paint::sheet::Sheet;
 use painter::Print;
+use points::QUAD_SIZE;
 use points::Quad;
 use reader::Reading;
 use refusals::Frame;
@@ -15,8 +17,8 @@ ghost use Rattle.grid.specs.Quads.{tagCount};
 ghost use Rattle.listing.specs.Listing.{listingOf};
 ghost use Rattle.reader.specs.Answer.{paperReading};
 ghost use Rattle.muosleap.specs.Quads.{paperListed};
-ghost use Rattle.demand3.specs.Sheet.{SheetThenRead};
-ghost use Rattle.demand3.specs.Said.{PaintedThenRead, StartsRead, startNumbers, StartsListed};
+ghost use Rattle.demand3.specs.Sheet.{SheetThenRead, SheetThenListed};
+ghost use Rattle.demand3.specs.Said.{PaintedThenRead, StartsRead, StartListed};
 
 // The readings of the four starts of a quad, start 0 first.
 pub struct Starts {
@@ -73,63 +75,20 @@ pub fn read_starts(plane: &[u8], frame: Frame, family: Family, codes: &[u64], qu
     Starts { s0, s1, s2, s3 }
 }
 
-// The four starts of a quad as a list of quads.
-fn starts_of(quad: Quad) -> [f32; 32]
-    ensures { λ r. ⌜ r ≡ startNumbers quad ⌝ }
-{
-    let a = quad.q0;
-    let b = quad.q1;
-    let c = quad.q2;
-    let d = quad.q3;
-    [
-        a.x,
-        a.y,
-        b.x,
-        b.y,
-        c.x,
-        c.y,
-        d.x,
-        d.y,
-        b.x,
-        b.y,
-        c.x,
-        c.y,
-        d.x,
-        d.y,
-        a.x,
-        a.y,
-        c.x,
-        c.y,
-        d.x,
-        d.y,
-        a.x,
-        a.y,
-        b.x,
-        b.y,
-        d.x,
-        d.y,
-        a.x,
-        a.y,
-        b.x,
-        b.y,
-        c.x,
-        c.y,
-    ]
-}
-
-// Paints the word with the table's edge and border, and reads the list of the four starts of the painter's quad on the plane as
+// Paints the word with the table's edge and border, and reads one start of the painter's quad in a list of its own, on the plane as
 // the painter left it. Where the painter refuses, the answer is its number.
-pub fn list_starts(
+pub fn list_start(
     plane: &mut [u8],
     frame: Frame,
     family: Family,
     codes: &[u64],
     word: u64,
     print: Print,
+    start: u8,
     rows: &mut [u64],
     corners: &mut [f32],
 ) -> Listed
-    ensures { λ r. ⌜ StartsListed (now (plane .entry)) frame family (now (codes .entry)) word print (now (rows .entry)) (now (corners .entry))
+    ensures { λ r. ⌜ StartListed (now (plane .entry)) frame family (now (codes .entry)) word print start (now (rows .entry)) (now (corners .entry))
         (now (plane .exit)) (listingOf (paperListed r) (now (rows .exit)) (now (corners .exit))) ⌝ }
 {
     let painted = muosleap_paint::painting::paint_tag(
@@ -143,8 +102,9 @@ pub fn list_starts(
     match painted {
         Painted::Refused(n) => Listed::Refused(n),
         Painted::Tag(quad) => {
-            let quads = starts_of(quad);
-            muosleap::quads::try_decode_quads(plane, frame, family, codes, &quads, rows, corners)
+            let mut list = [0.0f32; QUAD_SIZE];
+            points::put_quad(&mut list, 0, points::rotate_left(quad, start));
+            muosleap::quads::try_decode_quads(plane, frame, family, codes, &list, rows, corners)
         }
     }
 }
@@ -172,6 +132,33 @@ pub fn paint_sheet_then_read(
         Sheet::Painted => {
             let quad = points::rotate_left(points::quad_at(quads, position), start);
             muosleap::detector::try_decode_quad(plane, frame, family, codes, quad)
+        }
+    }
+}
+
+// Paints a sheet, and reads the list of all its quads as the painter wrote them, on the plane as it left it. Where the painter refuses,
+// the answer is its number.
+pub fn paint_sheet_then_list(
+    plane: &mut [u8],
+    frame: Frame,
+    family: Family,
+    codes: &[u64],
+    grid: Grid,
+    print: Print,
+    quads: &mut [f32],
+    rows: &mut [u64],
+    corners: &mut [f32],
+) -> Listed
+    ensures { λ r. ⌜ SheetThenListed (now (plane .entry)) frame family (now (codes .entry)) grid print (now (quads .entry)) (now (rows .entry)) (now (corners .entry))
+        (now (plane .exit)) (now (quads .exit)) (listingOf (paperListed r) (now (rows .exit)) (now (corners .exit))) ⌝ }
+{
+    let sheet = muosleap_paint::sheet::paint_sheet(plane, frame, family, codes, grid, print, quads);
+    match sheet {
+        Sheet::Refused(n) => Listed::Refused(n),
+        Sheet::Painted => {
+            let n = QUAD_SIZE * (grid.rows * grid.columns);
+            let list = &quads[..n];
+            muosleap::quads::try_decode_quads(plane, frame, family, codes, list, rows, corners)
         }
     }
 }

@@ -15,7 +15,7 @@ use Rattle.lists.proofs.Sum.{sum-two, sum-alone}
 use Rattle.lists.proofs.Tab.{length-tabulate, getD-tabulate}
 use Rattle.refusals.specs.Outcome.{Outcome, accepted, refused}
 use Rattle.reader.specs.Reading.{Tag}
-use Rattle.listing.specs.Repeated.{givesId, givenElsewhere, inList, listed}
+use Rattle.listing.specs.Repeated.{givesId, givesToo, givenElsewhere, inList, listed}
 use Rattle.listing.specs.Steps.{timesGiven}
 
 module _ (read : List (Outcome Tag)) where
@@ -42,14 +42,14 @@ module _ (read : List (Outcome Tag)) where
     pub elsewhere-at : givenElsewhere read q id ≡ true → Other
     unfolding givenElsewhere
     elsewhere-at e =
-        let p = some-at (length read) (λ p. not (eqb p q) && givesId id (readAt p)) e in
+        let p = some-at (length read) (givesToo read q id) e in
         let apart = not (eqb (p .at) q) in
         let gives = givesId id (readAt (p .at)) in
         record { place = p .at; below = p .below; apart = eqb-false (p .at) q (not-true (eqb (p .at) q) (and-left apart gives (p .passes))); gives = and-right apart gives (p .passes) }
 
     pub elsewhere-of : Other → givenElsewhere read q id ≡ true
     unfolding givenElsewhere
-    elsewhere-of o = some-of (length read) (λ p. not (eqb p q) && givesId id (readAt p)) (o .place) (o .below) (simp (ne-eqb (o .place) q (o .apart), o .gives))
+    elsewhere-of o = some-of (length read) (givesToo read q id) (o .place) (o .below) (simp (ne-eqb (o .place) q (o .apart), o .gives))
 
     pub elsewhere-not : ((p : ℕ) → p < length read → (p ≡ q → ⊥) → givesId id (readAt p) ≡ false) → givenElsewhere read q id ≡ false
     elsewhere-not h = go (givenElsewhere read q id) refl
@@ -100,5 +100,5 @@ pub elsewhere-ext : (read other : List (Outcome Tag)) (q id : ℕ) → length re
     → ((p : ℕ) → p < length read → givesId id (readAt read p) ≡ givesId id (readAt other p)) → givenElsewhere read q id ≡ givenElsewhere other q id
 unfolding givenElsewhere
 elsewhere-ext read other q id e h =
-    some-ext (length read) (λ p. not (eqb p q) && givesId id (readAt read p)) (λ p. not (eqb p q) && givesId id (readAt other p)) (λ p l. ap (λ (b : Bool). not (eqb p q) && b) (h p l))
-    ∙ ap (λ (n : ℕ). some n (λ p. not (eqb p q) && givesId id (readAt other p))) e
+    some-ext (length read) (givesToo read q id) (givesToo other q id) (λ p l. ap (λ (b : Bool). not (eqb p q) && b) (h p l))
+    ∙ ap (λ (n : ℕ). some n (givesToo other q id)) e

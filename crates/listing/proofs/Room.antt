@@ -2,7 +2,8 @@
 use mathlib.Core.Path.{_≡_}
 use mathlib.Core.Bool.{false, not, _||_}
 use Prim.Native.Nat.{ℕ, _*_, _%_, _≤_}
-use borrow.Author.Tests.{eqb-true, ltb-false, not-false}
+use native.Mathlib.Omega.{arith}
+use borrow.Author.Tests.{eq-eqb, eqb-true, le-ltb, ltb-false, not-false}
 use lib.Dec.{eqb, ltb}
 use Rattle.lists.proofs.Bools.{or-left, or-right}
 use Rattle.points.specs.Numbers.{quadSize}
@@ -13,6 +14,14 @@ pub record Room (quads rows corners : ℕ) : Type 0 where
   pub few : quadCount quads ≤ mostQuads
   pub row-room : rowSize * quadCount quads ≤ rows
   pub corner-room : quadSize * quadCount quads ≤ corners
+
+-- lists of t quads, and outputs with room for them
+pub list-fits : (t rows corners : ℕ) → t ≤ mostQuads → rowSize * t ≤ rows → quadSize * t ≤ corners → badList (quadSize * t) rows corners ≡ false
+unfolding badList
+list-fits t rows corners few row-room corner-room =
+    let whole : quadSize * t % quadSize ≡ 0 = omega arith in
+    let count : quadCount (quadSize * t) ≡ t = omega arith in
+    simp (eq-eqb (quadSize * t % quadSize) 0 whole, count, le-ltb mostQuads t few, le-ltb rows (rowSize * t) row-room, le-ltb corners (quadSize * t) corner-room)
 
 pub good-list : {quads rows corners : ℕ} → badList quads rows corners ≡ false → Room quads rows corners
 unfolding badList

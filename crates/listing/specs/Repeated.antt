@@ -14,10 +14,14 @@ abbrev pub givesId : ℕ → Outcome Tag → Bool
 givesId id (accepted tag) = eqb (tag .id) id
 givesId id (refused n) = false
 
+-- whether quad p of the list is another than q and gives this id
+abbrev pub givesToo : List (Outcome Tag) → (q id p : ℕ) → Bool
+givesToo read q id p = not (eqb p q) && givesId id (getD read p (refused 0))
+
 -- whether a quad of the list other than q gives this id
-unfoldable pub givenElsewhere : List (Outcome Tag) → ℕ → ℕ → Bool
+unfoldable pub givenElsewhere : List (Outcome Tag) → (q id : ℕ) → Bool
 unfolding some
-givenElsewhere read q id = some (length read) (λ p. not (eqb p q) && givesId id (getD read p (refused 0)))
+givenElsewhere read q id = some (length read) (givesToo read q id)
 
 -- "in a list reading, every quad that shares its id with another becomes a refused row"; "18, given in rows only, after 13", so what a
 -- quad is refused for by itself stays: quad q of the list, from what it reads as by itself

@@ -89,6 +89,12 @@ module _ (plane : List ℕ) (frame : Frame) (quads : List Float) (rows : List �
         let on = tested-on c (p .0) (p .1) (p .2) in
         record { good-frame = p .0; good-table = p .1; good-list = p .2; count = listing-count n (ap (λ (r : Listing). r .answer) on ∙ e); outcome = sym on }
 
+    -- a call that passes all three is accepted
+    pub accepts : badFrame (length plane) frame ≡ false → badTable family codes ≡ false → badList (length quads) (length rows) (length corners) ≡ false
+        → decodeQuads plane frame family codes quads rows corners .answer ≡ accepted (quadCount (length quads))
+    unfolding decodeQuads listing
+    accepts p q r = ap (λ (x : Listing). x .answer) (sym (tested-on (call (badTable family codes) family codes) p q r))
+
   -- the same by family number
   pub in-is : (number : ℕ) → isFamily number ≡ true
       → decodeQuadsIn plane frame number quads rows corners ≡ decodeQuads plane frame (familyOf number) (codesOf number) quads rows corners

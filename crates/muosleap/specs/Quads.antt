@@ -1,5 +1,5 @@
--- The list reader as an entry: "the list reader's 1, 6, 16 and, in rows, 8 to 13". A refused call leaves both outputs as they were.
--- Assumes nothing.
+-- The list reader as an entry: "the list reader's 1, 6, 16 and, in rows, 8 to 13", and of 02's ticket 4 "18, given in rows only, after 13". A
+-- refused call leaves both outputs as they were. Assumes nothing.
 use Prim.Native.Nat.{ℕ}
 use mathlib.Core.Bool.{cond, not}
 use mathlib.Core.List.{List}

@@ -1,4 +1,4 @@
-// Lists of the four starts of one painted tag, over and over.
+// Lists of the starts of one painted tag: each in a list of its own, and several in one, which share their id.
 use crate::kinds;
 use crate::kinds::sheet_of;
 use crate::prints::Sheet;
@@ -12,6 +12,8 @@ use muosleap_paint::painting::Painted;
 use points::Quad;
 use points::rotate_left;
 use vectors::Tally;
+use vectors::answers;
+use vectors::answers::Answer;
 use vectors::answers::row_at;
 use vectors::answers::same;
 use vectors::least;
@@ -19,24 +21,42 @@ use vectors::product;
 use vectors::report;
 use vectors::say;
 
-// Quad i of the list is start i of the quad, modulo 4.
-fn put_starts(quads: &mut [f32], quad: Quad) {
+// The start of quad i, in a list that begins with some start and goes on from corner to corner.
+fn start_of(first: u8, i: usize) -> u8 {
+    ((first as usize + i % 4) % 4) as u8
+}
+
+fn put_starts(quads: &mut [f32], quad: Quad, first: u8) {
     let mut i = 0;
     while i < quads.len() / 8 {
-        points::put_quad(quads, i, rotate_left(quad, (i % 4) as u8));
+        points::put_quad(quads, i, rotate_left(quad, start_of(first, i)));
         i += 1;
     }
 }
 
-// How many of the rows and corners of a list are those of the tag's starts.
-fn rows_own(rows: &[u64], corners: &[f32], count: usize, sheet: Sheet, quad: Quad) -> Tally {
+// What row i of a list of `count` starts is to be: the tag, or refusal 18 where another quad gives its id too.
+fn row_of(sheet: Sheet, quad: Quad, start: u8, count: usize) -> Answer {
+    if count < 2 {
+        own(sheet, quad, start)
+    } else {
+        answers::refused(18)
+    }
+}
+
+// How many of the rows and corners of a list are as they are to be.
+fn rows_alike(
+    rows: &[u64],
+    corners: &[f32],
+    count: usize,
+    sheet: Sheet,
+    quad: Quad,
+    first: u8,
+) -> Tally {
     let mut tally = Tally::new();
     let mut i = 0;
     while i < count {
-        tally = tally.count(
-            same(row_at(rows, corners, i), own(sheet, quad, (i % 4) as u8)),
-            i,
-        );
+        let answer = row_of(sheet, quad, start_of(first, i), count);
+        tally = tally.count(same(row_at(rows, corners, i), answer), i);
         i += 1;
     }
     tally
@@ -64,38 +84,41 @@ pub fn refused(number: u8) {
 }
 
 // Prints how many rows of a list are right, or the refusal's number.
-fn listed(plane: &[u8], table: &[u64], sheet: Sheet, quad: Quad, quads: &[f32]) {
+fn listed(plane: &[u8], table: &[u64], sheet: Sheet, quad: Quad, first: u8, quads: &[f32]) {
     let mut rows = [9u64; 4100];
     let mut corners = [9.0f32; 8200];
     match read_list(plane, table, sheet, quads, &mut rows, &mut corners) {
         Listed::Refused(number) => refused(number),
-        Listed::Done(total) => report(b":", rows_own(&rows, &corners, total, sheet, quad)),
+        Listed::Done(n) => report(b":", rows_alike(&rows, &corners, n, sheet, quad, first)),
     }
 }
 
-fn say_length(misprinted: u8, n: usize) {
+fn say_list(misprinted: u8, n: usize, first: u8) {
     if misprinted == 0 {
         say(b"  list of ", n as u64);
     } else {
         say(b"  misprinted, list of ", n as u64);
     }
+    say(b" from start ", first as u64);
 }
 
-fn list_of(plane: &[u8], table: &[u64], sheet: Sheet, quad: Quad, count: usize) {
+fn list_of(plane: &[u8], table: &[u64], sheet: Sheet, quad: Quad, count: usize, first: u8) {
     let mut quads = [0.0f32; 8200];
     let n = least(count, 1025);
-    put_starts(&mut quads, quad);
-    say_length(sheet.misprinted, n);
-    listed(plane, table, sheet, quad, &quads[0..8 * n]);
+    put_starts(&mut quads, quad, first);
+    say_list(sheet.misprinted, n, first);
+    listed(plane, table, sheet, quad, first, &quads[0..8 * n]);
 }
 
-// The lengths of the lists.
-const COUNTS: [usize; 5] = [0, 1, 1023, 1024, 1025];
+// The lengths of the lists, and their first starts: none, each start in a list of its own, and lists in which each row is 18.
+const COUNTS: [usize; 10] = [0, 1, 1, 1, 1, 2, 3, 1023, 1024, 1025];
 
-fn five_lists(plane: &[u8], table: &[u64], sheet: Sheet, quad: Quad) {
+const STARTS: [u8; 10] = [0, 0, 1, 2, 3, 0, 1, 2, 3, 0];
+
+fn ten_lists(plane: &[u8], table: &[u64], sheet: Sheet, quad: Quad) {
     let mut i = 0;
-    while i < 5 {
-        list_of(plane, table, sheet, quad, COUNTS[i]);
+    while i < 10 {
+        list_of(plane, table, sheet, quad, COUNTS[i], STARTS[i]);
         i += 1;
     }
 }
@@ -103,7 +126,7 @@ fn five_lists(plane: &[u8], table: &[u64], sheet: Sheet, quad: Quad) {
 fn painted_lists(plane: &mut [u8], table: &[u64], sheet: Sheet) {
     match paint(plane, sheet) {
         Painted::Refused(number) => refused(number),
-        Painted::Tag(quad) => five_lists(plane, table, sheet, quad),
+        Painted::Tag(quad) => ten_lists(plane, table, sheet, quad),
     }
 }
 

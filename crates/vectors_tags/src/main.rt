@@ -1,6 +1,6 @@
-// Replays what the original's turn, search, levels, corner test and quad reader answered, its families, paintings of tags and
-// sheets, and the limits of documents 01 and 02, against the public entries on tags; what has a picture again with filler between
-// its lines. tools/oracle/README.md says how the files were made.
+// Replays what the original's turn, search, levels, corner test and quad reader answered, its families, lists of quads, paintings of
+// tags and sheets, and the limits of documents 01 and 02, against the public entries on tags; what has a picture again with filler
+// between its lines. tools/oracle/README.md says how the files were made.
 mod bit_codes;
 mod padded;
 mod paintings;
@@ -78,6 +78,7 @@ fn replay_families() {
 fn replay_quads() {
     replay_file(QUADS, b"corners");
     replay_file(QUADS, b"readings");
+    replay_file(QUADS, b"lists");
     replay_file(QUADS, b"refusals");
 }
 
@@ -86,6 +87,7 @@ fn replay_quads() {
 fn replay_padded(layout: u8, heading: &[u8]) {
     io::write_all(STDOUT_FILENO, heading);
     replay_at(layout, QUADS, b"readings");
+    replay_at(layout, QUADS, b"lists");
     replay_at(layout, PAINTER, b"paintings");
     replay_at(layout, PAINTER, b"prints");
     replay_at(layout, PAINTER, b"sheets");

@@ -7,10 +7,10 @@ use Rattle.sheets.proofs.lists.put_starts.Statement.{statement}
 use Rattle.sheets.proofs.lists.put_starts.Tie as tie
 
 abbrev Inv-loop : tie.InvT-loop
-Inv-loop quads₀ quad i₀ quads i = length quads ≡ length quads₀
+Inv-loop quads₀ quad first i₀ quads i = length quads ≡ length quads₀
 
 abbrev μ-loop : tie.MeasureT-loop
-μ-loop quads₀ quad i₀ quads i = length quads₀ / 8 - i
+μ-loop quads₀ quad first i₀ quads i = length quads₀ / 8 - i
 
 pub put-starts-spec : {M : Type 1} → statement M
 put-starts-spec =

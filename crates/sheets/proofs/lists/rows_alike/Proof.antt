@@ -1,17 +1,17 @@
--- `sheets::lists::rows_own` is safe and ends. The measure is the number of rows left.
+-- `sheets::lists::rows_alike` is safe and ends. The measure is the number of rows left.
 use Prim.Native.Nat.{_-_}
 use borrow.Author.Needs.{needs}
-use Rattle.sheets.proofs.lists.rows_own.Statement.{statement}
-use Rattle.sheets.proofs.lists.rows_own.Tie as tie
+use Rattle.sheets.proofs.lists.rows_alike.Statement.{statement}
+use Rattle.sheets.proofs.lists.rows_alike.Tie as tie
 
 abbrev Inv-loop : tie.InvT-loop
-Inv-loop rows corners count sheet quad tally₀ i₀ tally i = Unit {0}
+Inv-loop rows corners count sheet quad first tally₀ i₀ tally i = Unit {0}
 
 abbrev μ-loop : tie.MeasureT-loop
-μ-loop rows corners count sheet quad tally₀ i₀ tally i = count - i
+μ-loop rows corners count sheet quad first tally₀ i₀ tally i = count - i
 
-pub rows-own-spec : {M : Type 1} → statement M
-rows-own-spec =
+pub rows-alike-spec : {M : Type 1} → statement M
+rows-alike-spec =
     tie.close
     (tie.spec
     Inv-loop
