@@ -10,9 +10,9 @@ use native.Mathlib.Decide.{decLt}
 use native.Mathlib.Omega.{arith}
 use lib.Ieee.{Float}
 use Rattle.lists.proofs.Bools.{and-parts, test}
+use Rattle.lists.proofs.Each.{any-found, any-from}
 use Rattle.clusters.specs.Connected.{below, connected}
 use Rattle.clusters.specs.Clusters.{border, seed, clustered, first}
-use Rattle.clusters.proofs.Any.{any-found, any-from}
 use Rattle.clusters.proofs.Joined.{here, joined-trans, joined-sym}
 use Rattle.clusters.proofs.Connected.{connected-joined, joined-connected}
 

@@ -11,14 +11,15 @@ use native.Mathlib.Omega.{arith}
 use lib.ListN.{length, getD, length-append}
 use lib.Seq.{ext-getD}
 use lib.Ieee.{Float, nan, lt}
+use Rattle.lists.specs.Each.{any}
 use Rattle.lists.specs.Tab.{tabulate}
 use Rattle.lists.proofs.Bools.{and-parts, and-not-left, and-not-right, or-cases, same-test, test, overlay}
+use Rattle.lists.proofs.Each.{any-found, any-from}
 use Rattle.lists.proofs.Tab.{length-tabulate, getD-tabulate}
 use Rattle.clusters.specs.declared.Row.{Row}
 use Rattle.clusters.specs.Connected.{below, connected}
-use Rattle.clusters.specs.Clusters.{border, any, maxF32, sumOver, rowOf, written, seed, clustered, first, rowsOf, marked, Found, foundBefore}
+use Rattle.clusters.specs.Clusters.{border, maxF32, sumOver, rowOf, written, seed, clustered, first, rowsOf, marked, Found, foundBefore}
 use Rattle.clusters.specs.Walk.{erased, put}
-use Rattle.clusters.proofs.Any.{any-found, any-from}
 use Rattle.clusters.proofs.Members.{setSum, set-sum-same}
 use Rattle.clusters.proofs.Joined.{Joined, here, step, joined-trans, joined-sym, joined-more}
 use Rattle.clusters.proofs.Connected.{below-inside, connected-joined, joined-connected}

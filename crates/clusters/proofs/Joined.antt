@@ -9,12 +9,12 @@ use native.Mathlib.Nat.{not-suc-le-zero, zero-add, suc-add, sub-add-cancel, le-r
 use native.Mathlib.Omega.{arith}
 use lib.Dec.{eqb}
 use borrow.Author.Tests.{eqb-true, eq-eqb, not-true}
+use Rattle.lists.specs.Each.{any}
 use Rattle.lists.specs.Sum.{sum}
 use Rattle.lists.proofs.Bools.{and-parts, or-cases, test, same?}
+use Rattle.lists.proofs.Each.{any-found, any-from}
 use Rattle.lists.proofs.Sum.{sum-le, sum-most}
 use Rattle.clusters.specs.Connected.{beside, reach}
-use Rattle.clusters.specs.Clusters.{any}
-use Rattle.clusters.proofs.Any.{any-found, any-from}
 use Rattle.clusters.proofs.Neighbours.{Beside, beside-sym, beside-found, beside-from}
 
 -- a path from s to i: its samples are in the set, and each is a neighbour of the one before

@@ -1,4 +1,3 @@
-pub mod Any
 pub mod Members
 pub mod Neighbours
 pub mod Joined

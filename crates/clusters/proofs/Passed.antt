@@ -7,11 +7,11 @@ use Prim.Native.Nat.{ℕ, _+_, _-_, _≤_, _<_}
 use native.Mathlib.Decide.{decLt}
 use native.Mathlib.Omega.{arith}
 use lib.Ieee.{Float}
+use Rattle.lists.specs.Each.{any}
 use Rattle.lists.proofs.Bools.{test}
+use Rattle.lists.proofs.Each.{any-found}
 use Rattle.clusters.specs.Connected.{below}
-use Rattle.clusters.specs.Clusters.{any}
 use Rattle.clusters.specs.Walk.{Passed}
-use Rattle.clusters.proofs.Any.{any-found}
 
 module _ (t : Float) (plane : List Float) (a end : ℕ) where
   pub passed-none : Passed t plane a end a

@@ -7,6 +7,7 @@ use mathlib.Core.List.{List, [], _∷_, _++_}
 use lib.Dec.{eqb}
 use lib.ListN.{length, getD}
 use lib.Ieee.{Float, nan, binary32, ofBits}
+use Rattle.lists.specs.Each.{any}
 use Rattle.lists.specs.Tab.{tabulate}
 use Rattle.lists.specs.Sum.{sum}
 use Rattle.refusals.specs.declared.Shape.{Shape}
@@ -16,11 +17,6 @@ use Rattle.clusters.specs.Connected.{below, connected}
 -- sample i of a plane w wide and h high lies in the first or the last row or column
 unfoldable pub border : ℕ → ℕ → ℕ → Bool
 border w h i = eqb (i / w) 0 || eqb (i / w + 1) h || eqb (i % w) 0 || eqb (i % w + 1) w
-
--- one of the places before k passes the test
-unfoldable pub any : ℕ → (ℕ → Bool) → Bool
-any zero test = false
-any (suc k) test = any k test || test k
 
 -- the largest finite f32
 abbrev pub maxF32 : Float

@@ -1,7 +1,7 @@
 -- Demand 3 of the definitions, carried to answers that equal them. Assumes nothing.
 use mathlib.Core.Path.{_≡_, refl, sym, ap, ap₂, _∙_}
 use mathlib.Core.List.{List}
-use Prim.Native.Nat.{ℕ, _<_}
+use Prim.Native.Nat.{ℕ}
 use lib.Ieee.{Float}
 use native.Mathlib.Omega.{arith}
 use Rattle.refusals.specs.Outcome.{Outcome, accepted}

@@ -121,11 +121,14 @@ sheet-then-listed plane frame family codes grid print quads rows corners paintin
       answered = λ took row-room corner-room.
           ap (λ (x : Listing). x .answer) (read (done took))
           ∙ list-answered plane frame family codes grid print quads rows corners left written kept took row-room corner-room;
-      whole = λ took passes n a position l.
+      whole = λ took passes n a.
           let d = done took in
           let s = read d in
-          let b = sym (ap (λ (x : Listing). x .answer) s) ∙ a in
-          let law = repeated .sheet family codes grid print plane frame quads left written (sym e ∙ ap (λ (o : Outcome Done). paintingOf o left written) d) passes
-          (take (quadSize * tagCount grid) written) rows corners n b (each-once plane frame family codes grid print quads rows corners left written kept took n b) position l in
-          (ap (λ (x : Listing). rowAt (x .rows) position) s ∙ law .0, ap (λ (x : Listing). cornersAt (x .corners) position) s ∙ law .1);
+          let b = sym (ap (λ (x : Listing). x .answer) s) ∙ a in (
+            all-tags plane frame family codes grid print quads rows corners left written kept took n b,
+            λ position l.
+                let law = repeated .sheet family codes grid print plane frame quads left written (sym e ∙ ap (λ (o : Outcome Done). paintingOf o left written) d) passes
+                (take (quadSize * tagCount grid) written) rows corners n b (each-once plane frame family codes grid print quads rows corners left written kept took n b) position l in
+                (ap (λ (x : Listing). rowAt (x .rows) position) s ∙ law .0, ap (λ (x : Listing). cornersAt (x .corners) position) s ∙ law .1),
+          );
     }

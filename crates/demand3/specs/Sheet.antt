@@ -52,7 +52,7 @@ pub record SheetThenListed (plane : List ℕ) (frame : Frame) (family : Family) 
   -- where the sheet is painted, outputs with room for all its tags are enough
   pub answered : paintSheet plane frame family codes grid print quads .answer ≡ accepted (record {}) → rowSize * tagCount grid ≤ length rows → quadSize * tagCount grid ≤ length corners
       → result .answer ≡ accepted (tagCount grid)
-  -- and where the table passes the likeness check the list reads whole: row and corner numbers of each position are those of its tag
+  -- and where the table passes the likeness check the list reads whole: of every tag, row and corner numbers are those of its position
   pub whole : paintSheet plane frame family codes grid print quads .answer ≡ accepted (record {}) → Passes family codes → (n : ℕ) → result .answer ≡ accepted n
-      → (position : ℕ) → position < n → let tag : Tag = record { id = position; turn = 0; differing = 0; corners = printOrder (quadAt written position) } in
-      (rowAt (result .rows) position ≡ rowOf (accepted tag)) × (cornersAt (result .corners) position ≡ cornersOf (accepted tag))
+      → (n ≡ tagCount grid) × ((position : ℕ) → position < n → let tag : Tag = record { id = position; turn = 0; differing = 0; corners = printOrder (quadAt written position) } in
+      (rowAt (result .rows) position ≡ rowOf (accepted tag)) × (cornersAt (result .corners) position ≡ cornersOf (accepted tag)))

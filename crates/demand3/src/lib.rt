@@ -11,7 +11,6 @@ use points::Quad;
 use reader::Reading;
 use refusals::Frame;
 use tables::Family;
-ghost use mathlib.Core.Path.{_≡_};
 ghost use Prim.Native.Nat.{_<_};
 ghost use Rattle.grid.specs.Quads.{tagCount};
 ghost use Rattle.listing.specs.Listing.{listingOf};

@@ -2,15 +2,15 @@
 use mathlib.Core.Path.{_≡_, refl, sym, ap, _∙_}
 use mathlib.Core.Bool.{Bool, true, false, not, _&&_, cond}
 use mathlib.Core.List.{List}
-use Prim.Native.Nat.{ℕ, _+_, _≤_, _<_}
+use Prim.Native.Nat.{ℕ, _<_}
 use native.Mathlib.Omega.{arith}
 use borrow.Author.Tests.{lt-ltb, le-ltb, eqb-false, ne-eqb, not-true}
 use lib.Dec.{eqb, ltb}
 use lib.ListN.{length, getD}
-use Rattle.lists.proofs.Bools.{and-left, and-right}
-use Rattle.lists.specs.Each.{some}
+use Rattle.lists.proofs.Bools.{and-parts}
+use Rattle.lists.specs.Each.{any}
 use Rattle.lists.specs.Sum.{oneIf}
-use Rattle.lists.proofs.Each.{some-at, some-of, some-ext}
+use Rattle.lists.proofs.Each.{any-found, any-from, any-ext}
 use Rattle.lists.proofs.Sum.{sum-two, sum-alone}
 use Rattle.lists.proofs.Tab.{length-tabulate, getD-tabulate}
 use Rattle.refusals.specs.Outcome.{Outcome, accepted, refused}
@@ -39,17 +39,16 @@ module _ (read : List (Outcome Tag)) where
       pub apart : place ≡ q → ⊥
       pub gives : givesId id (readAt place) ≡ true
 
+    pub elsewhere-of : Other → givenElsewhere read q id ≡ true
+    unfolding givenElsewhere
+    elsewhere-of o = any-found (length read) (o .place) (givesToo read q id) (o .below) (simp (ne-eqb (o .place) q (o .apart), o .gives))
+
     pub elsewhere-at : givenElsewhere read q id ≡ true → Other
     unfolding givenElsewhere
     elsewhere-at e =
-        let p = some-at (length read) (givesToo read q id) e in
-        let apart = not (eqb (p .at) q) in
-        let gives = givesId id (readAt (p .at)) in
-        record { place = p .at; below = p .below; apart = eqb-false (p .at) q (not-true (eqb (p .at) q) (and-left apart gives (p .passes))); gives = and-right apart gives (p .passes) }
-
-    pub elsewhere-of : Other → givenElsewhere read q id ≡ true
-    unfolding givenElsewhere
-    elsewhere-of o = some-of (length read) (givesToo read q id) (o .place) (o .below) (simp (ne-eqb (o .place) q (o .apart), o .gives))
+        let p = any-from (length read) (givesToo read q id) e in
+        let both = and-parts (not (eqb (p .0) q)) (givesId id (readAt (p .0))) (p .2) in
+        record { place = p .0; below = p .1; apart = eqb-false (p .0) q (not-true (eqb (p .0) q) (both .0)); gives = both .1 }
 
     pub elsewhere-not : ((p : ℕ) → p < length read → (p ≡ q → ⊥) → givesId id (readAt p) ≡ false) → givenElsewhere read q id ≡ false
     elsewhere-not h = go (givenElsewhere read q id) refl
@@ -100,5 +99,5 @@ pub elsewhere-ext : (read other : List (Outcome Tag)) (q id : ℕ) → length re
     → ((p : ℕ) → p < length read → givesId id (readAt read p) ≡ givesId id (readAt other p)) → givenElsewhere read q id ≡ givenElsewhere other q id
 unfolding givenElsewhere
 elsewhere-ext read other q id e h =
-    some-ext (length read) (givesToo read q id) (givesToo other q id) (λ p l. ap (λ (b : Bool). not (eqb p q) && b) (h p l))
-    ∙ ap (λ (n : ℕ). some n (givesToo other q id)) e
+    any-ext (length read) (givesToo read q id) (givesToo other q id) (λ p l. ap (λ (b : Bool). not (eqb p q) && b) (h p l))
+    ∙ ap (λ (n : ℕ). any n (givesToo other q id)) e

@@ -4,7 +4,7 @@ use mathlib.Core.Bool.{Bool, false, not, _&&_, cond}
 use mathlib.Core.List.{List}
 use lib.Dec.{eqb}
 use lib.ListN.{length, getD}
-use Rattle.lists.specs.Each.{some}
+use Rattle.lists.specs.Each.{any}
 use Rattle.lists.specs.Tab.{tabulate}
 use Rattle.refusals.specs.Outcome.{Outcome, accepted, refused}
 use Rattle.reader.specs.Reading.{Tag}
@@ -20,8 +20,8 @@ givesToo read q id p = not (eqb p q) && givesId id (getD read p (refused 0))
 
 -- whether a quad of the list other than q gives this id
 unfoldable pub givenElsewhere : List (Outcome Tag) → (q id : ℕ) → Bool
-unfolding some
-givenElsewhere read q id = some (length read) (givesToo read q id)
+unfolding any
+givenElsewhere read q id = any (length read) (givesToo read q id)
 
 -- "in a list reading, every quad that shares its id with another becomes a refused row"; "18, given in rows only, after 13", so what a
 -- quad is refused for by itself stays: quad q of the list, from what it reads as by itself

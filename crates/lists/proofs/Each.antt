@@ -1,13 +1,14 @@
--- Tests of the numbers below n: of every one, and of some. Assumes nothing.
-use mathlib.Core.Path.{_≡_, refl, sym, ap, ap₂, _∙_}
-use mathlib.Core.Logic.{_⊎_, inl, inr}
-use mathlib.Core.Bool.{Bool, true, false, _&&_, _||_, or-true}
+-- Tests of the numbers below n: of every one, and of any. Assumes nothing.
+use mathlib.Core.Path.{_≡_, refl, sym, ap, ap₂, subst, _∙_}
+use mathlib.Core.Logic.{_⊎_, inl, inr, ⊎-elim}
+use mathlib.Core.Bool.{Bool, true, false, false≢true, _&&_, _||_}
+use mathlib.Mathlib.Data.Bool.Basic.{or-inl, or-inr}
 use Prim.Native.Nat.{ℕ, zero, suc, _+_, _<_}
 use native.Mathlib.Numerals.{add-one}
 use native.Mathlib.Nat.{le-refl, not-suc-le-zero, le-of-suc-le-suc, eq-or-lt-of-le}
 use native.Mathlib.Omega.{arith}
-use Rattle.lists.proofs.Bools.{and-left, and-right, or-neither, or-cases}
-use Rattle.lists.specs.Each.{each, some}
+use Rattle.lists.proofs.Bools.{same?, and-left, and-right, or-cases}
+use Rattle.lists.specs.Each.{each, any}
 
 pub each-at : (n : ℕ) (ok : ℕ → Bool) → each n ok ≡ true → (k : ℕ) → k < n → ok k ≡ true
 unfolding each
@@ -46,39 +47,27 @@ pub each-more : (n : ℕ) (ok : ℕ → Bool) (x r : Bool) → x ≡ ok n → r 
 unfolding each
 each-more n ok x r p q = ap₂ _&&_ p q ∙ ap (λ (k : ℕ). each k ok) (sym (add-one n))
 
--- ---- some number
+-- ---- one of the numbers
 
--- the number that passes
-pub record Passed (n : ℕ) (ok : ℕ → Bool) : Type 0 where
-  pub at : ℕ
-  pub below : at < n
-  pub passes : ok at ≡ true
+pub any-found : (k s : ℕ) (test : ℕ → Bool) → s < k → test s ≡ true → any k test ≡ true
+unfolding any
+any-found zero s test h e = absurd (not-suc-le-zero h)
+any-found (suc k) s test h e =
+    ⊎-elim
+    (λ q. or-inr (any k test) (test k) (subst (λ (x : ℕ). test x ≡ true) q e))
+    (λ q. or-inl (any k test) (test k) (any-found k s test (omega arith) e))
+    (same? s k)
 
-pub some-at : (n : ℕ) (ok : ℕ → Bool) → some n ok ≡ true → Passed n ok
-unfolding some
-some-at zero ok e = let z : _≡_ {A = ℕ} 0 1 = cc in absurd (omega arith)
-some-at (suc n) ok e = go (some-at n ok) (or-cases (ok n) (some n ok) e)
-  where
-    go : (some n ok ≡ true → Passed n ok) → (ok n ≡ true) ⊎ (some n ok ≡ true) → Passed (suc n) ok
-    go f (inl q) = record { at = n; below = le-refl (suc n); passes = q }
-    go f (inr q) = let p = f q in record { at = p .at; below = omega (arith, p .below); passes = p .passes }
+pub any-from : (k : ℕ) (test : ℕ → Bool) → any k test ≡ true → (s : ℕ) × (s < k) × (test s ≡ true)
+unfolding any
+any-from zero test e = absurd (false≢true e)
+any-from (suc k) test e =
+    ⊎-elim
+    (λ a. let q = any-from k test a in (q .0, omega (arith, q .1), q .2))
+    (λ a. (k, omega arith, a))
+    (or-cases (any k test) (test k) e)
 
-pub some-not : (n : ℕ) (ok : ℕ → Bool) → ((k : ℕ) → k < n → ok k ≡ false) → some n ok ≡ false
-unfolding some
-some-not zero ok h = refl
-some-not (suc n) ok h = or-neither (ok n) (some n ok) (h n (le-refl (suc n))) (some-not n ok (λ k l. h k (omega arith)))
-
--- one that passes is enough
-pub some-of : (n : ℕ) (ok : ℕ → Bool) (k : ℕ) → k < n → ok k ≡ true → some n ok ≡ true
-unfolding some
-some-of zero ok k h e = absurd (not-suc-le-zero h)
-some-of (suc n) ok k h e = go (some-of n ok k) (eq-or-lt-of-le (le-of-suc-le-suc h))
-  where
-    go : (k < n → ok k ≡ true → some n ok ≡ true) → (k ≡ n) ⊎ (k < n) → ok n || some n ok ≡ true
-    go f (inl q) = ap (λ (b : Bool). b || some n ok) (ap ok (sym q) ∙ e)
-    go f (inr m) = ap (λ (b : Bool). ok n || b) (f m e) ∙ or-true (ok n)
-
-pub some-ext : (n : ℕ) (f g : ℕ → Bool) → ((k : ℕ) → k < n → f k ≡ g k) → some n f ≡ some n g
-unfolding some
-some-ext zero f g h = refl
-some-ext (suc n) f g h = ap₂ _||_ (h n (le-refl (suc n))) (some-ext n f g (λ k l. h k (omega arith)))
+pub any-ext : (n : ℕ) (f g : ℕ → Bool) → ((k : ℕ) → k < n → f k ≡ g k) → any n f ≡ any n g
+unfolding any
+any-ext zero f g h = refl
+any-ext (suc n) f g h = ap₂ _||_ (any-ext n f g (λ k l. h k (omega arith))) (h n (le-refl (suc n)))

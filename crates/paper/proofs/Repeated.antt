@@ -1,10 +1,10 @@
 -- Ticket 4 of document 02: what 18 means, and that the list of a sheet's quads reads whole. Assumes nothing.
 use mathlib.Core.Path.{_≡_, refl, sym, ap, _∙_, subst}
-use mathlib.Core.Bool.{Bool, true, false, cond}
+use mathlib.Core.Bool.{Bool, true, false, not, cond}
 use mathlib.Core.List.{List}
 use Prim.Native.Nat.{ℕ, _<_}
 use native.Mathlib.Omega.{arith}
-use borrow.Author.Tests.{ltb-true, ne-eqb}
+use borrow.Author.Tests.{ltb-true, ne-eqb, not-false}
 use lib.Dec.{ltb}
 use lib.Ieee.{Float}
 use lib.ListN.{length}
@@ -15,17 +15,17 @@ use Rattle.points.specs.declared.Quad.{Quad}
 use Rattle.points.specs.Numbers.{quadAt, cornersAt}
 use Rattle.tables.specs.Table.{badTable}
 use Rattle.tables.specs.declared.Family.{Family}
-use Rattle.tag_families.specs.Families.{familyOf, codesOf}
+use Rattle.tag_families.specs.Families.{isFamily, familyOf, codesOf}
+use Rattle.tag_families.proofs.Families.{families-pass}
 use Rattle.painter.specs.declared.Print.{Print}
 use Rattle.grid.specs.Quads.{tagCount}
 use Rattle.grid.specs.declared.Grid.{Grid}
-use Rattle.reader.specs.Reading.{Tag}
+use Rattle.reader.specs.Reading.{Tag, reading}
 use Rattle.reader.proofs.Answers.{Answers, reading-answers}
 use Rattle.listing.specs.Repeated.{givesId}
-use Rattle.listing.specs.Listing.{Listing, rowOf, cornersOf, rowAt}
+use Rattle.listing.specs.Listing.{quadCount, badList, Listing, listingOf, listing, rowOf, cornersOf, rowAt}
 use Rattle.muosleap.specs.Quad.{decodeQuad, decodeQuadIn}
 use Rattle.muosleap.specs.Quads.{decodeQuads, decodeQuadsIn}
-use Rattle.muosleap.proofs.Order.{quad-1, quad-6, quad-read}
 use Rattle.paper.specs.Others.{NoOther}
 use Rattle.paper.specs.Demand3.{Passes, printOrder, ownTurn}
 use Rattle.paper.specs.Sheet.{SheetPainted, Reads}
@@ -67,23 +67,52 @@ module _ (plane : List ℕ) (frame : Frame) (number : ℕ) (quads : List Float) 
           (λ k j. sym (by .0 (quadAt quads j)) k)
           (listed-row plane frame (familyOf number) (codesOf number) quads rows corners n lent i l))
 
--- ---- one quad
+-- ---- 18 in rows only
+
+-- a refusal by another number than 18
+other-number : {A : Type 0} (n : ℕ) → (n ≡ 18 → ⊥) → _≡_ {A = Outcome A} (refused n) (refused 18) → ⊥
+other-number n h e = h (cc)
+
+-- a quad: after 1 and 6 its reading, which is refused by 8 to 13
+past-6 : (one six : Bool) (o : Outcome Tag) → (six ≡ false → o ≡ refused 18 → ⊥) → cond one (refused 1) (cond six (refused 6) o) ≡ refused 18 → ⊥
+past-6 true six o h e = other-number 1 (λ z. omega arith) e
+past-6 false true o h e = other-number 6 (λ z. omega arith) e
+past-6 false false o h e = h refl e
+
+no-18 : (plane : List ℕ) (frame : Frame) (family : Family) (codes : List ℕ) (quad : Quad) → badTable family codes ≡ false → reading plane frame family codes quad ≡ refused 18 → ⊥
+no-18 plane frame family codes quad t e = omega (arith, subst (Answers codes) e (reading-answers family codes t quad plane frame) .1)
 
 one-quad : (plane : List ℕ) (frame : Frame) (family : Family) (codes : List ℕ) (quad : Quad) → decodeQuad plane frame family codes quad ≡ refused 18 → ⊥
-one-quad plane frame family codes quad e = framed (badFrame (length plane) frame) refl
-  where
-    other : (n : ℕ) → (n ≡ 18 → ⊥) → decodeQuad plane frame family codes quad ≡ refused n → ⊥
-    other n h f = let same : _≡_ {A = Outcome Tag} (refused n) (refused 18) = sym f ∙ e in h (cc)
+unfolding decodeQuad
+one-quad plane frame family codes quad = past-6 (badFrame (length plane) frame) (badTable family codes) (reading plane frame family codes quad) (no-18 plane frame family codes quad)
 
-    tabled : badFrame (length plane) frame ≡ false → (t : Bool) → badTable family codes ≡ t → ⊥
-    tabled f true t = other 6 (λ z. omega arith) (quad-6 plane frame family codes quad f t)
-    tabled f false t =
-        let among = subst (Answers codes) (sym (quad-read plane frame family codes quad f t) ∙ e) (reading-answers family codes t quad plane frame) in
-        omega (arith, among .1)
+one-quad-in : (plane : List ℕ) (frame : Frame) (number : ℕ) (quad : Quad) → decodeQuadIn plane frame number quad ≡ refused 18 → ⊥
+unfolding decodeQuadIn
+one-quad-in plane frame number quad =
+    past-6 (badFrame (length plane) frame) (not (isFamily number)) (reading plane frame (familyOf number) (codesOf number) quad)
+    (λ f. no-18 plane frame (familyOf number) (codesOf number) quad (families-pass number (ltb-true number 5 (not-false (isFamily number) f))))
 
-    framed : (f : Bool) → badFrame (length plane) frame ≡ f → ⊥
-    framed true f = other 1 (λ z. omega arith) (quad-1 plane frame family codes quad f)
-    framed false f = tabled f (badTable family codes) refl
+-- a list: after 1, 6 and 16 it is accepted
+past-16 : (one six sixteen : Bool) (rows : List ℕ) (corners : List Float) (read : Listing) (n : ℕ) → read .answer ≡ accepted n
+    → cond one (listingOf (refused 1) rows corners) (cond six (listingOf (refused 6) rows corners) (cond sixteen (listingOf (refused 16) rows corners) read)) .answer ≡ refused 18 → ⊥
+past-16 true six sixteen rows corners read n h e = other-number 1 (λ z. omega arith) e
+past-16 false true sixteen rows corners read n h e = other-number 6 (λ z. omega arith) e
+past-16 false false true rows corners read n h e = other-number 16 (λ z. omega arith) e
+past-16 false false false rows corners read n h e = refused-not 18 n ⊥ (sym e ∙ h)
+
+whole-list : (plane : List ℕ) (frame : Frame) (family : Family) (codes : List ℕ) (quads : List Float) (rows : List ℕ) (corners : List Float)
+    → decodeQuads plane frame family codes quads rows corners .answer ≡ refused 18 → ⊥
+unfolding decodeQuads listing
+whole-list plane frame family codes quads rows corners =
+    past-16 (badFrame (length plane) frame) (badTable family codes) (badList (length quads) (length rows) (length corners)) rows corners
+    (listing plane frame family codes quads rows corners) (quadCount (length quads)) refl
+
+whole-list-in : (plane : List ℕ) (frame : Frame) (number : ℕ) (quads : List Float) (rows : List ℕ) (corners : List Float)
+    → decodeQuadsIn plane frame number quads rows corners .answer ≡ refused 18 → ⊥
+unfolding decodeQuadsIn listing
+whole-list-in plane frame number quads rows corners =
+    past-16 (badFrame (length plane) frame) (not (isFamily number)) (badList (length quads) (length rows) (length corners)) rows corners
+    (listing plane frame (familyOf number) (codesOf number) quads rows corners) (quadCount (length quads)) refl
 
 -- ---- a sheet
 
@@ -114,5 +143,8 @@ repeated = record {
       listed-row plane frame family codes quads rows corners n (listed plane frame family codes quads rows corners n a) i l;
   list-in = row-in;
   one-quad = one-quad;
+  one-quad-in = one-quad-in;
+  whole-list = whole-list;
+  whole-list-in = whole-list-in;
   sheet = whole;
 }

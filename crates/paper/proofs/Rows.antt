@@ -3,6 +3,7 @@ use mathlib.Core.Path.{_≡_, refl}
 use mathlib.Core.List.{map}
 use Rattle.word.specs.Word.{turns}
 use lib.Ieee.{ofBits, toBits, add, sub, mul, neg, le, lt, isNan}
+use Rattle.lists.specs.Each.{any}
 use Rattle.lists.specs.Tab.{tabulate, all}
 use Rattle.levels.specs.Levels.{overAll}
 use Rattle.places.specs.Rounding.{in1024ths}
@@ -10,7 +11,7 @@ use Rattle.muosleap.specs.Codes.{turned, bestTag}
 use Rattle.muosleap.specs.BitCode.{bitCode}
 use Rattle.refusals.specs.Plane.{badSides, badPlane}
 use Rattle.clusters.specs.Connected.{beside, reach}
-use Rattle.clusters.specs.Clusters.{border, any, written, seed, clustered, first, rowsOf}
+use Rattle.clusters.specs.Clusters.{border, written, seed, clustered, first, rowsOf}
 use Rattle.muosleap_picture.specs.ImageUtil.{hessianResponse}
 use Rattle.muosleap_picture.specs.SaddleClusters.{initSaddleClusters}
 use Rattle.paper.specs.Rows.{Row, rows}

@@ -10,7 +10,7 @@ use Rattle.listing.specs.Repeated.{givesId}
 abbrev pub NoOther : (read : ℕ → Outcome Tag) (n i id : ℕ) → Type 0
 NoOther read n i id = (j : ℕ) → j < n → (j ≡ i → ⊥) → givesId id (read j) ≡ false
 
--- so the quad at place i, if it is read at all
+-- the quad at place i, if it is read, gives an id that no other quad gives
 abbrev pub Unshared : (read : ℕ → Outcome Tag) (n i : ℕ) → Type 0
 Unshared read n i = (tag : Tag) → read i ≡ accepted tag → NoOther read n i (tag .id)
 

@@ -50,8 +50,13 @@ pub record Repeated : Type 0 where
   pub list-in : (plane : List ℕ) (frame : Frame) (number : ℕ) (quads : List Float) (rows : List ℕ) (corners : List Float) (n i : ℕ)
       → let result = decodeQuadsIn plane frame number quads rows corners in
       result .answer ≡ accepted n → i < n → Row (λ j. decodeQuadIn plane frame number (quadAt quads j)) n i (rowAt (result .rows) i) (cornersAt (result .corners) i)
-  -- "18, given in rows only": one quad is never refused so
+  -- "18, given in rows only": no quad alone is refused so, and no list
   pub one-quad : (plane : List ℕ) (frame : Frame) (family : Family) (codes : List ℕ) (quad : Quad) → decodeQuad plane frame family codes quad ≡ refused 18 → ⊥
+  pub one-quad-in : (plane : List ℕ) (frame : Frame) (number : ℕ) (quad : Quad) → decodeQuadIn plane frame number quad ≡ refused 18 → ⊥
+  pub whole-list : (plane : List ℕ) (frame : Frame) (family : Family) (codes : List ℕ) (quads : List Float) (rows : List ℕ) (corners : List Float)
+      → decodeQuads plane frame family codes quads rows corners .answer ≡ refused 18 → ⊥
+  pub whole-list-in : (plane : List ℕ) (frame : Frame) (number : ℕ) (quads : List Float) (rows : List ℕ) (corners : List Float)
+      → decodeQuadsIn plane frame number quads rows corners .answer ≡ refused 18 → ⊥
   -- the list of a painted sheet's quads, each once, reads whole: every row is that of its tag
   pub sheet : (family : Family) (codes : List ℕ) (grid : Grid) (print : Print) (plane : List ℕ) (frame : Frame) (output : List Float) (shown : List ℕ) (written : List Float)
       → SheetPainted family codes grid print plane frame output shown written → Passes family codes

@@ -34,7 +34,7 @@ fn put_starts(quads: &mut [f32], quad: Quad, first: u8) {
     }
 }
 
-// What row i of a list of `count` starts is to be: the tag, or refusal 18 where another quad gives its id too.
+// What the row of a start is to be in a list of `count` starts: the tag, or refusal 18 where another quad gives its id too.
 fn row_of(sheet: Sheet, quad: Quad, start: u8, count: usize) -> Answer {
     if count < 2 {
         own(sheet, quad, start)

@@ -3,7 +3,7 @@
 
 use crate::out::{File, Frame};
 use crate::quads::{Picture, Quad, Reading, push_quad, push_reading, refused, started};
-use std::collections::HashSet;
+use std::collections::{HashMap, HashSet};
 
 /// How many quads of a list read with an id. A refused quad gives none.
 fn times(alone: &[Reading], id: usize) -> usize {
@@ -36,18 +36,19 @@ pub fn push_both(file: &mut File, picture: &Picture, quads: &[Quad]) {
     }
 }
 
+/// What the original keeps of a list is the last tag of each id, and nothing else.
+fn check_gathered(picture: &Picture, quads: &[Quad], alone: &[Reading]) {
+    let tags = alone.iter().filter(|row| row.0 == 0);
+    let last: HashMap<u32, Quad> = tags.map(|tag| (tag.1 as u32, tag.4)).collect();
+    assert!(picture.detector.gathered(&picture.image(), quads) == last);
+}
+
 /// A list of quads. Answers what each of them reads as alone. Where no id repeats, the rows are what the original says to each quad,
-/// and their tags are all that the original gathers. Where one does, it gathers fewer than it reads.
+/// and their tags are all that the original gathers.
 fn push_list(file: &mut File, picture: &Picture, quads: &[Quad]) -> Vec<Reading> {
     let alone: Vec<Reading> = quads.iter().map(|quad| picture.read(quad)).collect();
+    check_gathered(picture, quads, &alone);
     let rows = rows(&alone);
-    let tags: Vec<&Reading> = alone.iter().filter(|row| row.0 == 0).collect();
-    let gathered = picture.detector.gathered(&picture.image(), quads);
-    if rows == alone {
-        assert!(gathered.len() == tags.len() && tags.iter().all(|tag| gathered[&(tag.1 as u32)] == tag.4));
-    } else {
-        assert!(gathered.len() < tags.len());
-    }
     let frame = Frame::new().u8(2).u8(picture.number).u8(quads.len() as u8);
     file.push(rows.into_iter().fold(quads.iter().fold(frame, push_quad), push_reading));
     alone
@@ -78,56 +79,55 @@ fn push_lists(file: &mut File, picture: &Picture, quads: &[Quad], lists: &[(&[Qu
 
 /// A row of tags: 0; 7 as it is, with one misprinted module, with three, which are too many, and with four unsure ones; 7 + 256; and
 /// the family's last one.
-fn row_of_tags(file: &mut File) -> Vec<Vec<Reading>> {
+fn row_picture() -> (Picture, [Quad; 7]) {
     let mut picture = Picture::new(4, 64, 10, |_| 200);
     let codes = picture.detector.code_list().to_vec();
     let words = [codes[0], codes[7], codes[7] ^ 1, codes[7] ^ 7, codes[7], codes[263], codes[codes.len() - 1]];
-    let tags: [Quad; 7] = std::array::from_fn(|k| picture.draw(words[k], (1 + 9 * k, 1), 1, [50, 200]));
-    let [zero, seven, specked, spoilt, worn, other, last] = tags;
+    let tags = std::array::from_fn(|k| picture.draw(words[k], (1 + 9 * k, 1), 1, [50, 200]));
     // 125 is the middle: 116 and 134 are unsure; a bit keeps its value.
     for pixel in (0..4).map(|k| (2 + k) * 64 + 38 + k) {
         picture.pixels[pixel] = if picture.pixels[pixel] == 200 { 134 } else { 116 };
     }
+    (picture, tags)
+}
+
+/// Lists of that row's tags, and of quads that are refused by themselves.
+fn row_of_tags(file: &mut File) -> Vec<Vec<Reading>> {
+    let (picture, tags) = row_picture();
+    let [zero, seven, specked, spoilt, worn, other, last] = tags;
     let [zero1, zero2] = [1, 2].map(|start| started(&zero, start));
     let [seven1, seven2, seven3] = [1, 2, 3].map(|start| started(&seven, start));
-    let outside = seven.map(|(x, y)| (x + 64.0, y));
-    let dented = [(0.25, 4.25), (63.0, 0.0), (63.0, 9.0), (63.0, 4.0)];
-    let point = [(3.0, 3.0); 4];
-    let mut mirrored = seven;
-    mirrored.reverse();
+    let [outside, dented] = [seven.map(|(x, y)| (x + 64.0, y)), [(0.25, 4.25), (63.0, 0.0), (63.0, 9.0), (63.0, 4.0)]];
+    let [point, mirrored] = [[(3.0, 3.0); 4], [seven[3], seven[2], seven[1], seven[0]]];
+    let lists: &[(&[Quad], &[u8])] = &[
+        (&[], &[]),
+        (&[seven], &[0]),
+        (&[outside], &[9]),
+        (&[seven, seven], &[18, 18]),
+        (&[seven, seven2], &[18, 18]),
+        (&[seven, specked], &[18, 18]),
+        (&[seven, other], &[0, 0]),
+        (&[point, point], &[11, 11]),
+        (&[seven1, seven1, seven1], &[18, 18, 18]),
+        (&[seven, seven1, seven2, seven3], &[18, 18, 18, 18]),
+        // A quad that is refused by itself gives no id, whichever tag it lies on.
+        (&[seven3, mirrored], &[0, 13]),
+        (&[worn, seven2, spoilt], &[12, 0, 13]),
+        (&[outside, specked, outside], &[9, 0, 9]),
+        (&[worn, spoilt, dented, worn, spoilt, dented], &[12, 13, 10, 12, 13, 10]),
+        (&[zero1, seven, spoilt, worn, other, last, outside, dented, point, mirrored], &[0, 0, 13, 12, 0, 0, 9, 10, 11, 13]),
+        // Others stand between those that share an id.
+        (&[seven3, outside, seven1, dented, worn, specked], &[18, 9, 18, 10, 12, 18]),
+        (&[specked, zero, other, last, seven], &[18, 0, 0, 0, 18]),
+        (&[zero, seven, zero1, specked, zero2, seven2], &[18, 18, 18, 18, 18, 18]),
+        (&[last, seven, zero2, last, zero1, other, specked], &[18, 18, 18, 18, 18, 0, 18]),
+        // A refused row has the number 0 for an id, and is no tag 0.
+        (&[zero, outside, point, point], &[0, 9, 11, 11]),
+        (&[point, zero2, dented, zero2, spoilt], &[11, 18, 10, 18, 13]),
+        (&[zero, zero1, seven1, last, mirrored], &[18, 18, 0, 0, 13]),
+    ];
     let others = [zero1, zero2, seven1, seven2, seven3, outside, dented, point, mirrored];
-    push_lists(
-        file,
-        &picture,
-        &[&tags[..], &others].concat(),
-        &[
-            (&[], &[]),
-            (&[seven], &[0]),
-            (&[outside], &[9]),
-            (&[seven, seven], &[18, 18]),
-            (&[seven, seven2], &[18, 18]),
-            (&[seven, specked], &[18, 18]),
-            (&[seven, other], &[0, 0]),
-            (&[point, point], &[11, 11]),
-            (&[seven1, seven1, seven1], &[18, 18, 18]),
-            (&[seven, seven1, seven2, seven3], &[18, 18, 18, 18]),
-            // A quad that is refused by itself gives no id, whichever tag it lies on.
-            (&[seven3, mirrored], &[0, 13]),
-            (&[worn, seven2, spoilt], &[12, 0, 13]),
-            (&[outside, specked, outside], &[9, 0, 9]),
-            (&[worn, spoilt, dented, worn, spoilt, dented], &[12, 13, 10, 12, 13, 10]),
-            (&[zero1, seven, spoilt, worn, other, last, outside, dented, point, mirrored], &[0, 0, 13, 12, 0, 0, 9, 10, 11, 13]),
-            // Others stand between those that share an id.
-            (&[seven3, outside, seven1, dented, worn, specked], &[18, 9, 18, 10, 12, 18]),
-            (&[specked, zero, other, last, seven], &[18, 0, 0, 0, 18]),
-            (&[zero, seven, zero1, specked, zero2, seven2], &[18, 18, 18, 18, 18, 18]),
-            (&[last, seven, zero2, last, zero1, other, specked], &[18, 18, 18, 18, 18, 0, 18]),
-            // A refused row has the number 0 for an id, and is no tag 0.
-            (&[zero, outside, point, point], &[0, 9, 11, 11]),
-            (&[point, zero2, dented, zero2, spoilt], &[11, 18, 10, 18, 13]),
-            (&[zero, zero1, seven1, last, mirrored], &[18, 18, 0, 0, 13]),
-        ],
-    )
+    push_lists(file, &picture, &[&tags[..], &others].concat(), lists)
 }
 
 /// All tags of T16H5, at one start after the other: each once; the first one again at the end; half of them twice, in the same order.

@@ -5,8 +5,8 @@ use mathlib.Core.Bool.{Bool, _||_}
 use Prim.Native.Nat.{ℕ, _+_, _-_, _≤_}
 use native.Mathlib.Numerals.{add-one}
 use native.Mathlib.Omega.{arith}
+use Rattle.lists.specs.Each.{any}
 use Rattle.clusters.specs.Connected.{below}
-use Rattle.clusters.specs.Clusters.{any}
 use Rattle.clusters.proofs.block_below.Statement.{statement}
 use Rattle.clusters.proofs.block_below.Tie as tie
 

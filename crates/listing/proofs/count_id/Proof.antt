@@ -1,5 +1,5 @@
 -- The count at the tag's id, one more; a refused reading has none. Assumes nothing.
-use mathlib.Core.Path.{sym, ap, subst, _∙_}
+use mathlib.Core.Path.{sym, ap, subst}
 use native.Mathlib.Omega.{arith}
 use borrow.Author.Needs.{needs}
 use Rattle.reader.specs.Answer.{paperReading}

@@ -4,8 +4,7 @@ use mathlib.Core.Path.{_≡_, refl, sym, ap, ap₂, subst, _∙_}
 use mathlib.Core.List.{List, flatMap}
 use Prim.Native.Nat.{ℕ, _+_, _-_, _*_, _≤_, _<_}
 use native.Mathlib.Omega.{arith}
-use lib.Ieee.{Float}
-use lib.ListN.{length, getD}
+use lib.ListN.{length}
 use lib.Seq.{sets}
 use Rattle.lists.specs.Tab.{tabulate}
 use Rattle.lists.specs.Front.{inFront}
@@ -19,7 +18,6 @@ use Rattle.reader.proofs.Answers.{reading-answers}
 use Rattle.listing.specs.Listing.{quadCount, rowSize, rowOf, cornersOf, readings, listingOf, listing}
 use Rattle.listing.proofs.Room.{good-list}
 use Rattle.listing.proofs.Sizes.{row-size, corners-size}
-use Rattle.listing.proofs.Repeated.{readAt}
 use Rattle.listing.proofs.Counts.{Known, known, Counts, counts-none, counts-more, countable}
 use Rattle.listing.proofs.Again.{FirstPass, first-pass, row-known, Again, looked-at-none, looked-at-more, looked-at-all}
 use Rattle.listing.proofs.Listing.{read, all, length-readings, reading-at}

@@ -98,7 +98,7 @@ impl Readers {
 }
 
 /// Reads each quad alone and in a list of its own, and in one list the first quad of each id and all refused ones: these are compared.
-/// The list of all quads repeats ids, so it is not compared with the original, and not counted. It is held to document 02's rule.
+/// The list of all quads may repeat ids, so it is not compared with the original, and not counted. It is held to document 02's rule.
 fn read_all(picture: &quads::Picture, corners: &[quads::Quad], lines: &mut Lines, tally: &mut Tally) {
     let (family, shape) = (FAMILIES[picture.number as usize], Shape { width: picture.width, height: picture.height });
     let readers = Readers { family, lent: lines.lend(picture.pixels.clone(), shape) };
@@ -220,8 +220,8 @@ fn painted(part: u64, mut lines: Lines, tally: &mut Tally) {
             tally.same(read.map(|tag| (tag.id, tag.turn, tag.differing, tag.corners)), Ok(promised), input);
             tally.same(family.try_decode_quads(&picture, &[quad]), Ok(vec![read]), input);
         }
-        // One tag four times in one list.
-        tally.same(family.try_decode_quads(&picture, &starts), Ok(vec![Err(Refusal::RepeatedId); 4]), input);
+        // One tag four times in one list, by document 02 and not counted.
+        assert_eq!(family.try_decode_quads(&picture, &starts), Ok(vec![Err(Refusal::RepeatedId); 4]), "{}", input());
     }
 }
 
