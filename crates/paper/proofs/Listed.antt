@@ -23,7 +23,7 @@ use Rattle.muosleap.specs.Quads.{decodeQuads}
 use Rattle.muosleap.proofs.Order.{quad-read}
 use Rattle.muosleap.proofs.ListReading.{accepted-means}
 use Rattle.paper.specs.Others.{Unshared, Shares}
-use Rattle.paper.specs.Repeated.{Row}
+use Rattle.paper.specs.Repeated.{ListedRow}
 
 module _ (plane : List ℕ) (frame : Frame) (family : Family) (codes : List ℕ) (quads : List Float) where
   -- what the quad at place j reads as by itself
@@ -104,7 +104,7 @@ module _ (plane : List ℕ) (frame : Frame) (family : Family) (codes : List ℕ)
               by true g x = other tag e g
               by false g x = absurd (omega arith)
 
-      pub listed-row : Row alone n i (rowAt (result .rows) i) (cornersAt (result .corners) i)
+      pub listed-row : ListedRow alone n i (rowAt (result .rows) i) (cornersAt (result .corners) i)
       listed-row = record {
         shared = λ s. (h .row i l ∙ ap rowOf (shared s), h .corner i l ∙ ap cornersOf (shared s));
         only-shared = λ z. only-shared (ap (λ (row : List ℕ). getD row 0 0) (sym (h .row i l)) ∙ z);

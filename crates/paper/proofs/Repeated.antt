@@ -29,7 +29,7 @@ use Rattle.muosleap.specs.Quads.{decodeQuads, decodeQuadsIn}
 use Rattle.paper.specs.Others.{NoOther}
 use Rattle.paper.specs.Demand3.{Passes, printOrder, ownTurn}
 use Rattle.paper.specs.Sheet.{SheetPainted, Reads}
-use Rattle.paper.specs.Repeated.{Row, EachOnce, Repeated}
+use Rattle.paper.specs.Repeated.{ListedRow, EachOnce, Repeated}
 use Rattle.paper.proofs.Listed.{listed, listed-row}
 use Rattle.paper.proofs.Demand3.{demand-3}
 use Rattle.paper.proofs.Sheet.{sheets-read}
@@ -45,7 +45,7 @@ module _ (plane : List ℕ) (frame : Frame) (number : ℕ) (quads : List Float) 
   result = decodeQuadsIn plane frame number quads rows corners
 
   abbrev RowIn : Type 0
-  RowIn = Row (λ j. decodeQuadIn plane frame number (quadAt quads j)) n i (rowAt (result .rows) i) (cornersAt (result .corners) i)
+  RowIn = ListedRow (λ j. decodeQuadIn plane frame number (quadAt quads j)) n i (rowAt (result .rows) i) (cornersAt (result .corners) i)
 
   -- no such family: the call is refused by 1 or by 6
   no-family : ltb number 5 ≡ false → (f : Bool) → badFrame (length plane) frame ≡ f → result .answer ≡ refused (cond f 1 6)
@@ -62,8 +62,8 @@ module _ (plane : List ℕ) (frame : Frame) (number : ℕ) (quads : List Float) 
           let by = demand-3 .by-number number (ltb-true number 5 b) plane frame in
           let whole = by .1 quads rows corners in
           let lent = listed plane frame (familyOf number) (codesOf number) quads rows corners n (sym (ap (λ (x : Listing). x .answer) whole) ∙ a) in
-          subst (λ (x : Listing). Row (λ j. decodeQuadIn plane frame number (quadAt quads j)) n i (rowAt (x .rows) i) (cornersAt (x .corners) i)) (sym whole)
-          (subst (λ (read : ℕ → Outcome Tag). let x = decodeQuads plane frame (familyOf number) (codesOf number) quads rows corners in Row read n i (rowAt (x .rows) i) (cornersAt (x .corners) i))
+          subst (λ (x : Listing). ListedRow (λ j. decodeQuadIn plane frame number (quadAt quads j)) n i (rowAt (x .rows) i) (cornersAt (x .corners) i)) (sym whole)
+          (subst (λ (read : ℕ → Outcome Tag). let x = decodeQuads plane frame (familyOf number) (codesOf number) quads rows corners in ListedRow read n i (rowAt (x .rows) i) (cornersAt (x .corners) i))
           (λ k j. sym (by .0 (quadAt quads j)) k)
           (listed-row plane frame (familyOf number) (codesOf number) quads rows corners n lent i l))
 

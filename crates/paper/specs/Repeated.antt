@@ -24,7 +24,7 @@ use Rattle.paper.specs.Demand3.{Passes, printOrder, ownTurn}
 use Rattle.paper.specs.Sheet.{SheetPainted}
 
 -- the row and the corner numbers of the quad at place i of n, from what each quad reads as by itself
-pub record Row (read : ℕ → Outcome Tag) (n i : ℕ) (row : List ℕ) (corners : List Float) : Type 0 where
+pub record ListedRow (read : ℕ → Outcome Tag) (n i : ℕ) (row : List ℕ) (corners : List Float) : Type 0 where
   -- the row is 18 if ..
   pub shared : Shares read n i → (row ≡ rowOf (refused 18)) × (corners ≡ cornersOf (refused 18))
   -- .. and only if the quad is read, and some other quad of the list with the same id
@@ -46,10 +46,10 @@ pub record EachOnce (written quads : List Float) (tags n : ℕ) : Type 0 where
 pub record Repeated : Type 0 where
   pub list : (plane : List ℕ) (frame : Frame) (family : Family) (codes : List ℕ) (quads : List Float) (rows : List ℕ) (corners : List Float) (n i : ℕ)
       → let result = decodeQuads plane frame family codes quads rows corners in
-      result .answer ≡ accepted n → i < n → Row (λ j. decodeQuad plane frame family codes (quadAt quads j)) n i (rowAt (result .rows) i) (cornersAt (result .corners) i)
+      result .answer ≡ accepted n → i < n → ListedRow (λ j. decodeQuad plane frame family codes (quadAt quads j)) n i (rowAt (result .rows) i) (cornersAt (result .corners) i)
   pub list-in : (plane : List ℕ) (frame : Frame) (number : ℕ) (quads : List Float) (rows : List ℕ) (corners : List Float) (n i : ℕ)
       → let result = decodeQuadsIn plane frame number quads rows corners in
-      result .answer ≡ accepted n → i < n → Row (λ j. decodeQuadIn plane frame number (quadAt quads j)) n i (rowAt (result .rows) i) (cornersAt (result .corners) i)
+      result .answer ≡ accepted n → i < n → ListedRow (λ j. decodeQuadIn plane frame number (quadAt quads j)) n i (rowAt (result .rows) i) (cornersAt (result .corners) i)
   -- "18, given in rows only": no quad alone is refused so, and no list
   pub one-quad : (plane : List ℕ) (frame : Frame) (family : Family) (codes : List ℕ) (quad : Quad) → decodeQuad plane frame family codes quad ≡ refused 18 → ⊥
   pub one-quad-in : (plane : List ℕ) (frame : Frame) (number : ℕ) (quad : Quad) → decodeQuadIn plane frame number quad ≡ refused 18 → ⊥

@@ -4,7 +4,6 @@ use mathlib.Core.List.{List}
 use lib.Ieee.{Float}
 use borrow.Author.Needs.{needs}
 use Rattle.points.specs.Numbers.{numbersOf}
-use Rattle.points.specs.declared.Quad.{Quad}
 use Rattle.muosleap_paint.specs.declared.painting.Painted.{Painted}
 use Rattle.muosleap_paint.specs.PaintTag.{paperPainted}
 use Rattle.muosleap.specs.Quads.{decodeQuads}
