@@ -124,8 +124,8 @@ uint32_t muosleap_try_decode_quad_in(const uint8_t *plane, size_t plane_count, s
  * quads: eight numbers a quad. rows: four numbers a quad, which are its refusal or 0, its id, its turn and its differing modules.
  * corners: eight numbers a quad. A refused quad's row is 0 but for the refusal, and its corners are 0.
  * Quads that are read with the same id, two or more of them, are all refused with 18; a quad that stands in the list twice counts
- * twice. What a quad is refused for by itself, 8 to 13, stays: it then gives no id and makes no other quad 18. Reading one quad alone
- * never gives 18. So lend each found quad once.
+ * twice, so lend each found quad once. What a quad is refused for by itself, 8 to 13, stays: it then gives no id and makes no other
+ * quad 18. Reading one quad alone never gives 18.
  */
 uint32_t muosleap_try_decode_quads(const uint8_t *plane, size_t plane_count, size_t width, size_t height, size_t pitch,
                                    uint8_t edge, uint8_t border, uint8_t hamming_distance, const uint64_t *codes,

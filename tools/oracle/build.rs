@@ -91,38 +91,49 @@ fn image_util(source: &Source) -> String {
 }
 
 fn detector(source: &Source) -> String {
-    let positions = source.whole("pub fn decode_positions(");
-    let corner_test = part(&positions, "if quad_pts.iter()", "return None;\n    }");
-    let bits = source.whole("pub fn bit_code(");
-    let samples = part(&bits, "let brightness_vec", "return None;\n    }");
-    let saddles = source.method("    pub fn refined_saddle_points(");
-    let threshold = part(&saddles, "let min_response =", "let min_response_threshold = min_response * 0.05;");
-    let centers = part(&saddles, "let saddle_cluster_centers", ".collect();");
     let decode = source.method("    fn try_decode_quad(");
-    let order = part(&decode, "let mut new_q_pts", "try_into().unwrap();");
-    let detect = source.method("    pub fn detect(");
-    let gather = part(&detect, "if let Some((tag_id, refined_arr))", "detected_tags.insert(tag_id as u32, refined_arr);");
-    let gathered = format!(
-        "/// The tags of quads, as `detect` gathers them.\n\
-         pub fn gathered(&self, img_grey: &GrayImage, quads: &[[(f32, f32); 4]]) -> HashMap<u32, [(f32, f32); 4]> {{\n\
-         let mut detected_tags = HashMap::new();\nfor quad_points in quads.iter().map(|quad| quad.to_vec()) {{\n{gather}\n}}\n}}\n\
-         detected_tags\n}}\n"
-    );
     let search = source.whole("pub fn best_tag(");
-    let quad = "quad_points: &[(f32, f32)]";
     [
         "use std::{collections::HashMap, ops::BitXor};\nuse super::{image_util, tag_families};\n".to_string(),
         "use super::image_util::GrayImagef32;\nuse image::{GenericImageView, GrayImage};\n".to_string(),
         source.whole("pub struct TagDetector"),
         source.whole("pub struct DetectorParams"),
         source.whole("impl DetectorParams"),
-        positions,
-        bits,
+        source.whole("pub fn decode_positions("),
+        source.whole("pub fn bit_code("),
         source.whole("const fn rotate_bits("),
         best_tag_differing(&search),
         search,
         source.whole("fn init_saddle_clusters("),
-        format!("impl TagDetector {{\n{}\n{decode}\n{ACCESS}{gathered}}}\n", source.method("    pub fn new(")),
+        format!("impl TagDetector {{\n{}\n{decode}\n{ACCESS}{}}}\n", source.method("    pub fn new("), gathered(source)),
+        detector_parts(source),
+        PRIVATE.to_string(),
+    ]
+    .concat()
+}
+
+/// The lines of `detect` that gather tags in a map by id, over quads that are given.
+fn gathered(source: &Source) -> String {
+    let detect = source.method("    pub fn detect(");
+    let gather = part(&detect, "if let Some((tag_id, refined_arr))", "detected_tags.insert(tag_id as u32, refined_arr);");
+    format!(
+        "/// The tags of quads, as `detect` gathers them.\n\
+         pub fn gathered(&self, img_grey: &GrayImage, quads: &[[(f32, f32); 4]]) -> HashMap<u32, [(f32, f32); 4]> {{\n\
+         let mut detected_tags = HashMap::new();\nfor quad_points in quads.iter().map(|quad| quad.to_vec()) {{\n{gather}\n}}\n}}\n\
+         detected_tags\n}}\n"
+    )
+}
+
+/// Parts of larger functions, each wrapped as a function of its own.
+fn detector_parts(source: &Source) -> String {
+    let corner_test = part(&source.whole("pub fn decode_positions("), "if quad_pts.iter()", "return None;\n    }");
+    let samples = part(&source.whole("pub fn bit_code("), "let brightness_vec", "return None;\n    }");
+    let order = part(&source.method("    fn try_decode_quad("), "let mut new_q_pts", "try_into().unwrap();");
+    let saddles = source.method("    pub fn refined_saddle_points(");
+    let threshold = part(&saddles, "let min_response =", "let min_response_threshold = min_response * 0.05;");
+    let centers = part(&saddles, "let saddle_cluster_centers", ".collect();");
+    let quad = "quad_points: &[(f32, f32)]";
+    [
         format!(
             "/// The corner test of `decode_positions`.\n\
              pub fn corners_inside(img_w: u32, img_h: u32, quad_pts: &[(f32, f32)]) -> Option<()> {{\n{corner_test}\nSome(())\n}}\n"
@@ -140,7 +151,6 @@ fn detector(source: &Source) -> String {
             "/// The centres of clusters.\n\
              pub fn centers(saddle_clusters: &[Vec<(u32, u32)>]) -> Vec<(f32, f32)> {{\n{centers}\nsaddle_cluster_centers\n}}\n"
         ),
-        PRIVATE.to_string(),
     ]
     .concat()
 }

@@ -53,7 +53,7 @@ module _ (read : List (Outcome Tag)) where
   length-passed p h = length-append (tabulate p said) (drop p read) ∙ omega (arith, length-tabulate p said, length-drop p read)
 
   module _ (times rows output : List ℕ) (q : ℕ) (l : q < length read) (first : FirstPass read times) (e : rows ≡ inFront (flatMap rowOf (passed q)) output) where
-    -- row q is that of its quad's own reading yet
+    -- row q is still that of its quad's own reading
     number-is : (j : ℕ) → j < rowSize → getD rows (rowSize * q + j) 0 ≡ getD (rowOf (readAt read q)) j 0
     number-is j h =
         let front = flatMap rowOf (passed q) in

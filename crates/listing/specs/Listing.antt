@@ -1,5 +1,5 @@
 -- A list reading, from 01's "Quad to tag" and refusal 16, with 02's tickets 2, "a list row becomes four numbers .., and 16 measures by that",
--- and 4, which refuses quads of one id (Repeated). Assumes nothing.
+-- and 4, which refuses quads that share their id (Repeated). Assumes nothing.
 use Prim.Native.Nat.{ℕ, _*_, _/_, _%_}
 use mathlib.Core.Bool.{Bool, not, _||_}
 use mathlib.Core.List.{List, [], _∷_, _++_, flatMap}

@@ -22,7 +22,7 @@ mostIds = 1024
 abbrev pub timesGiven : (ℕ → Outcome Tag) → ℕ → ℕ → ℕ
 timesGiven read n id = sum n (λ p. oneIf (givesId id (read p)))
 
--- a reading that can be counted: its id has a count, which has room for one more. A refused one asks for nothing
+-- a reading that can be counted: its id has a count, which has room for one more. Of a refused one it says what always holds
 abbrev pub Countable : List ℕ → Outcome Tag → Type 0
 Countable times (accepted tag) = (tag .id < mostIds) × (getD times (tag .id) 0 < 65535)
 Countable times (refused n) = 0 < mostIds

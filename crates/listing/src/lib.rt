@@ -1,4 +1,4 @@
-// List of quads to rows: each quad of a list is read by itself, and those that give one id are refused together.
+// List of quads to rows: each quad of a list is read by itself, and those that give the same id are refused together.
 use points::Point;
 use points::QUAD_SIZE;
 use points::Quad;

@@ -1,4 +1,5 @@
--- A list that is made of parts of one width, at the front of an output, and the loop that writes it there part by part. Assumes nothing.
+-- A list that is made of parts of one width, at the front of an output, the loop that writes it there part by part, and
+-- the loop that writes some parts anew. Assumes nothing.
 use mathlib.Core.Path.{_≡_, refl, sym, ap, _∙_}
 use mathlib.Core.Bool.{Bool, true, false, cond}
 use mathlib.Core.List.{List, [], _∷_, _++_, flatMap, append-nil, append-assoc}

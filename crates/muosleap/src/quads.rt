@@ -11,7 +11,7 @@ pub enum Listed {
 }
 
 // A row (refusal, id, turn, differing modules) and eight corner numbers for each quad of a list, read with a lent table. Refusals 1,
-// 6 and 16; in rows 8 to 13, and 18 for all quads that give one id.
+// 6 and 16; in rows 8 to 13, and 18 for all quads that share their id.
 pub fn try_decode_quads(
     plane: &[u8],
     frame: Frame,

@@ -42,7 +42,7 @@ use Rattle.paper.specs.Demand3.{Passes, misprints, Painted, printOrder, 
 use Rattle.paper.proofs.Starts.{start-alike}
 use Rattle.paper.proofs.Clear.{Printed}
 use Rattle.paper.proofs.Painted.{painted-read}
-use Rattle.paper.proofs.Listed.{all, listed, listed-row}
+use Rattle.paper.proofs.Listed.{all, list-says, listed-row}
 
 -- ---- what the hypotheses say
 
@@ -89,7 +89,7 @@ own-listed family codes id word frame quad shown s alone = record {
       let own = ownTag codes id word quad s in
       let o : decodeQuad shown frame family codes (quadAt quads i) ≡ accepted own = ap (decodeQuad shown frame family codes) e ∙ alone in
       let same : (tag : Tag) → decodeQuad shown frame family codes (quadAt quads i) ≡ accepted tag → id ≡ tag .id = λ tag p. let q : accepted own ≡ accepted tag = sym o ∙ p in cc in
-      let r = listed-row shown frame family codes quads rows corners n (listed shown frame family codes quads rows corners n a) i l
+      let r = listed-row shown frame family codes quads rows corners n (list-says shown frame family codes quads rows corners n a) i l
       .alone (λ tag p. subst (NoOther (λ j. decodeQuad shown frame family codes (quadAt quads j)) n i) (same tag p) none) in
       (r .0 ∙ ap rowOf o, r .1 ∙ ap cornersOf o);
 }
@@ -177,8 +177,8 @@ module _ (plane : List ℕ) (frame : Frame) (family : Family) (codes : List ℕ)
       → (butTurn (rowAt (decodeQuads plane frame family codes quads rows corners .rows) i) ≡ butTurn (rowAt (decodeQuads plane frame family codes quads′ rows′ corners′ .rows) i))
       × (cornersAt (decodeQuads plane frame family codes quads rows corners .corners) i ≡ cornersAt (decodeQuads plane frame family codes quads′ rows′ corners′ .corners) i)
   lists-alike quads quads′ rows rows′ corners corners′ n n′ a a′ same starts i l =
-      let r = listed plane frame family codes quads rows corners n a in
-      let r′ = listed plane frame family codes quads′ rows′ corners′ n′ a′ in
+      let r = list-says plane frame family codes quads rows corners n a in
+      let r′ = list-says plane frame family codes quads′ rows′ corners′ n′ a′ in
       let reads = all plane frame family codes quads in
       let reads′ = all plane frame family codes quads′ in
       let i′ = subst (λ (m : ℕ). i < m) same l in

@@ -45,8 +45,8 @@ module _ (plane : List ℕ) (frame : Frame) (family : Family) (codes : List ℕ)
       pub row : (i : ℕ) → i < n → rowAt (result .rows) i ≡ rowOf (inList all i (alone i))
       pub corner : (i : ℕ) → i < n → cornersAt (result .corners) i ≡ cornersOf (inList all i (alone i))
 
-    pub listed : result .answer ≡ accepted n → Listed
-    listed a =
+    pub list-says : result .answer ≡ accepted n → Listed
+    list-says a =
         let r = accepted-means plane frame quads rows corners family codes n a in
         let among : (j : ℕ) → j < n → j < quadCount (length quads) = λ j l. subst (λ (m : ℕ). j < m) (r .count) l in
         let same : (j : ℕ) → _ = λ (j : ℕ). sym (quad-read plane frame family codes (quadAt quads j) (r .good-frame) (r .good-table)) in

@@ -30,7 +30,7 @@ use Rattle.paper.specs.Others.{NoOther}
 use Rattle.paper.specs.Demand3.{Passes, printOrder, ownTurn}
 use Rattle.paper.specs.Sheet.{SheetPainted, Reads}
 use Rattle.paper.specs.Repeated.{ListedRow, EachOnce, Repeated}
-use Rattle.paper.proofs.Listed.{listed, listed-row}
+use Rattle.paper.proofs.Listed.{list-says, listed-row}
 use Rattle.paper.proofs.Demand3.{demand-3}
 use Rattle.paper.proofs.Sheet.{sheets-read}
 
@@ -61,7 +61,7 @@ module _ (plane : List ℕ) (frame : Frame) (number : ℕ) (quads : List Float) 
       known true b =
           let by = demand-3 .by-number number (ltb-true number 5 b) plane frame in
           let whole = by .1 quads rows corners in
-          let lent = listed plane frame (familyOf number) (codesOf number) quads rows corners n (sym (ap (λ (x : Listing). x .answer) whole) ∙ a) in
+          let lent = list-says plane frame (familyOf number) (codesOf number) quads rows corners n (sym (ap (λ (x : Listing). x .answer) whole) ∙ a) in
           subst (λ (x : Listing). ListedRow (λ j. decodeQuadIn plane frame number (quadAt quads j)) n i (rowAt (x .rows) i) (cornersAt (x .corners) i)) (sym whole)
           (subst (λ (read : ℕ → Outcome Tag). let x = decodeQuads plane frame (familyOf number) (codesOf number) quads rows corners in ListedRow read n i (rowAt (x .rows) i) (cornersAt (x .corners) i))
           (λ k j. sym (by .0 (quadAt quads j)) k)
@@ -140,7 +140,7 @@ module _ (family : Family) (codes : List ℕ) (grid : Grid) (print : Print) (pla
 pub repeated : Repeated
 repeated = record {
   list = λ plane frame family codes quads rows corners n i a l.
-      listed-row plane frame family codes quads rows corners n (listed plane frame family codes quads rows corners n a) i l;
+      listed-row plane frame family codes quads rows corners n (list-says plane frame family codes quads rows corners n a) i l;
   list-in = row-in;
   one-quad = one-quad;
   one-quad-in = one-quad-in;

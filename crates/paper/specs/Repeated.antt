@@ -27,12 +27,12 @@ use Rattle.paper.specs.Sheet.{SheetPainted}
 pub record ListedRow (read : ℕ → Outcome Tag) (n i : ℕ) (row : List ℕ) (corners : List Float) : Type 0 where
   -- the row is 18 if ..
   pub shared : Shares read n i → (row ≡ rowOf (refused 18)) × (corners ≡ cornersOf (refused 18))
-  -- .. and only if the quad is read, and some other quad of the list with the same id
+  -- .. and only if the quad and some other quad of the list are read with the same id
   pub only-shared : getD row 0 0 ≡ 18 → Shares read n i
   -- else both are those of the quad by itself
   pub alone : Unshared read n i → (row ≡ rowOf (read i)) × (corners ≡ cornersOf (read i))
 
--- a list of n quads of a painted sheet, "each once, from whatever starts": all of them where n is the number of tags
+-- a list of n quads of a painted sheet, each once, from whatever starts: some of them, or all where n is the number of tags
 pub record EachOnce (written quads : List Float) (tags n : ℕ) : Type 0 where
   pub position : ℕ → ℕ
   pub start : ℕ → ℕ

@@ -23,7 +23,7 @@ abbrev pub Answers : List ℕ → Outcome Tag → Type 0
 Answers codes (accepted tag) = tag .id < length codes
 Answers codes (refused n) = (8 ≤ n) × (n ≤ 13)
 
--- levels are refused by 11 or 12
+-- what is needed of the levels' answer: its refusals, 11 and 12, lie in 8 to 13, and a word asks for nothing
 Bits : Outcome ℕ → Type 0
 Bits (accepted word) = 0 ≤ word
 Bits (refused n) = (8 ≤ n) × (n ≤ 13)

@@ -110,7 +110,8 @@ fn list_of(plane: &[u8], table: &[u64], sheet: Sheet, quad: Quad, count: usize, 
     listed(plane, table, sheet, quad, first, &quads[0..8 * n]);
 }
 
-// The lengths of the lists, and their first starts: none, each start in a list of its own, and lists in which each row is 18.
+// The lengths of the lists, and the start that each begins with: no quad, each start in a list of its own, lists in which each row is
+// 18, and one quad too many.
 const COUNTS: [usize; 10] = [0, 1, 1, 1, 1, 2, 3, 1023, 1024, 1025];
 
 const STARTS: [u8; 10] = [0, 0, 1, 2, 3, 0, 1, 2, 3, 0];

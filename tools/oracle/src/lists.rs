@@ -54,7 +54,7 @@ fn push_list(file: &mut File, picture: &Picture, quads: &[Quad]) -> Vec<Reading>
     alone
 }
 
-/// Lists of no quad, of one and of two, with ids met once, twice, three and four times.
+/// The file of lists. Among them are lists of no quad, of one and of two, and ids met once, twice, three and four times.
 pub fn lists() -> File {
     let mut file = File::new("vectors_tags/data/lists");
     let lists = [row_of_tags(&mut file), whole_family(&mut file)].concat();

@@ -101,14 +101,14 @@ put-corners-requires c κs =
     let l = t .before in
     omega (arith, t .loop-test .taken, l .loop .inv .4, good-list (start l .pre .2) .corner-room)
 
-abbrev turn : tie.After-slice-known4 Inv-loop μ-loop Inv-loop2 μ-loop2 → tie.In-loop Inv-loop μ-loop Inv-loop2 μ-loop2
-turn c = c .before .before .before .before .before .before .before .before .before .before .before .before
+abbrev round : tie.After-slice-known4 Inv-loop μ-loop Inv-loop2 μ-loop2 → tie.In-loop Inv-loop μ-loop Inv-loop2 μ-loop2
+round c = c .before .before .before .before .before .before .before .before .before .before .before .before
 
 add-q : tie.Need-add-q Inv-loop μ-loop Inv-loop2 μ-loop2
-add-q c = let t = turn c in omega (arith, t .loop-test .taken, start (t .before) .good)
+add-q c = let t = round c in omega (arith, t .loop-test .taken, start (t .before) .good)
 
 loop-less : tie.Need-loop-less Inv-loop μ-loop Inv-loop2 μ-loop2
-loop-less c = let t = turn c in omega (arith, t .loop-test .taken)
+loop-less c = let t = round c in omega (arith, t .loop-test .taken)
 
 loop-again : tie.Need-loop-again Inv-loop μ-loop Inv-loop2 μ-loop2
 loop-again c =
@@ -116,7 +116,7 @@ loop-again c =
     let pr = pc .before .before .before .before in
     let ci = pr .before .before in
     let d = ci .before .before in
-    let t = turn c in
+    let t = round c in
     let l = t .before in
     let s = start l in
     let a = s .args in
@@ -188,19 +188,19 @@ refuse-repeated-requires c κs =
           (m .loop2 .inv .1 .rows-are (allRead (m .before)) output (counted (m .before)) (omega (arith, among)) (rows-written (m .before))),
     )
 
-abbrev turn2 : tie.After-slice-known6 Inv-loop μ-loop Inv-loop2 μ-loop2 → tie.In-loop2 Inv-loop μ-loop Inv-loop2 μ-loop2
-turn2 c = c .before .before .before .before .before .before .before .before
+abbrev round2 : tie.After-slice-known6 Inv-loop μ-loop Inv-loop2 μ-loop2 → tie.In-loop2 Inv-loop μ-loop Inv-loop2 μ-loop2
+round2 c = c .before .before .before .before .before .before .before .before
 
 add-p : tie.Need-add-p Inv-loop μ-loop Inv-loop2 μ-loop2
-add-p c = let u = turn2 c in omega (arith, u .loop2-test .taken, start (u .before .before .before) .good)
+add-p c = let u = round2 c in omega (arith, u .loop2-test .taken, start (u .before .before .before) .good)
 
 loop2-less : tie.Need-loop2-less Inv-loop μ-loop Inv-loop2 μ-loop2
-loop2-less c = let u = turn2 c in omega (arith, u .loop2-test .taken)
+loop2-less c = let u = round2 c in omega (arith, u .loop2-test .taken)
 
 loop2-again : tie.Need-loop2-again Inv-loop μ-loop Inv-loop2 μ-loop2
 loop2-again c =
     let r = c .before .before .before .before in
-    let u = turn2 c in
+    let u = round2 c in
     let m = u .before in
     let l = m .before .before in (
       omega (arith, u .loop2-test .taken),
