@@ -2,7 +2,7 @@
 use mathlib.Core.Path.{_≡_, refl, sym, ap, ap₂, subst, _∙_}
 use mathlib.Core.Bool.{Bool, _&&_, cond}
 use mathlib.Core.List.{List, _++_, flatMap}
-use Prim.Native.Nat.{ℕ, _+_, _*_, _<_}
+use Prim.Native.Nat.{ℕ, _+_, _*_, _≤_, _<_}
 use native.Mathlib.Nat.{add-zero}
 use native.Mathlib.Omega.{arith}
 use borrow.Author.Tests.{eq-eqb, ne-eqb}
@@ -21,7 +21,7 @@ use Rattle.points.specs.Numbers.{quadSize}
 use Rattle.reader.specs.Reading.{Tag}
 use Rattle.listing.specs.Repeated.{givesId, givenElsewhere, inList, listed}
 use Rattle.listing.specs.Listing.{rowSize, rowOf, cornersOf}
-use Rattle.listing.specs.Steps.{mostIds, timesGiven, repeatedRow, LookedAt}
+use Rattle.listing.specs.Steps.{mostIds, repeatedRow, LookedAt}
 use Rattle.listing.proofs.Sizes.{row-size, corners-size}
 use Rattle.listing.proofs.Repeated.{readAt, elsewhere-counted}
 use Rattle.listing.proofs.Counts.{Known, Counts}
@@ -80,7 +80,6 @@ module _ (read : List (Outcome Tag)) where
             → inList read q o ≡ cond (repeatedRow rows times q) (refused 18) o
         go (accepted tag) is k n0 n1 =
             let id = tag .id in
-            let count = timesGiven (readAt read) (length read) id in
             let same : repeatedRow rows times q ≡ givenElsewhere read q id =
             ap₂ (λ (a : Bool) (b : Bool). a && b) (eq-eqb (getD rows (rowSize * q) 0) 0 n0) (ap (λ (x : ℕ). ltb 1 (getD times x 0)) n1 ∙ ap (ltb 1) (first .counts .each id k))
             ∙ sym (elsewhere-counted read q id l (ap (givesId id) is ∙ eq-eqb id id refl)) in
@@ -92,9 +91,9 @@ module _ (read : List (Outcome Tag)) where
 -- ---- the loop: whatever readings the outputs were written from in the first pass
 
 pub record Again (times rows₀ : List ℕ) (corners₀ : List Float) (p : ℕ) (rows : List ℕ) (corners : List Float) : Type 0 where
-  pub rows-are : (read : List (Outcome Tag)) (output : List ℕ) → FirstPass read times → p < length read + 1 → rows₀ ≡ inFront (flatMap rowOf read) output
+  pub rows-are : (read : List (Outcome Tag)) (output : List ℕ) → FirstPass read times → p ≤ length read → rows₀ ≡ inFront (flatMap rowOf read) output
       → rows ≡ inFront (flatMap rowOf (passed read p)) output
-  pub corners-are : (read : List (Outcome Tag)) (output : List ℕ) (behind : List Float) → FirstPass read times → p < length read + 1 → rows₀ ≡ inFront (flatMap rowOf read) output
+  pub corners-are : (read : List (Outcome Tag)) (output : List ℕ) (behind : List Float) → FirstPass read times → p ≤ length read → rows₀ ≡ inFront (flatMap rowOf read) output
       → corners₀ ≡ inFront (flatMap cornersOf read) behind → corners ≡ inFront (flatMap cornersOf (passed read p)) behind
 
 pub looked-at-none : (times rows : List ℕ) (corners : List Float) → Again times rows corners 0 rows corners

@@ -7,9 +7,9 @@ use native.Mathlib.Omega.{arith}
 use borrow.Author.Tests.{lt-ltb, le-ltb, eqb-false, ne-eqb, not-true}
 use lib.Dec.{eqb, ltb}
 use lib.ListN.{length, getD}
-use Rattle.lists.proofs.Bools.{and-parts}
 use Rattle.lists.specs.Each.{any}
 use Rattle.lists.specs.Sum.{oneIf}
+use Rattle.lists.proofs.Bools.{and-parts}
 use Rattle.lists.proofs.Each.{any-found, any-from, any-ext}
 use Rattle.lists.proofs.Sum.{sum-two, sum-alone}
 use Rattle.lists.proofs.Tab.{length-tabulate, getD-tabulate}

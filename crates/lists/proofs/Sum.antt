@@ -1,4 +1,4 @@
--- Sums over places: of a plane's rows and columns, in any order. Assumes nothing.
+-- Sums over places: of one place, of two, of a plane's rows and columns in any order; and what a count sums. Assumes nothing.
 use mathlib.Core.Path.{_≡_, refl, sym, ap, ap₂, _∙_}
 use mathlib.Core.Logic.{_⊎_, inl, inr}
 use mathlib.Core.Bool.{Bool, true, false}
