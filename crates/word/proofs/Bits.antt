@@ -4,7 +4,7 @@ use mathlib.Core.Logic.{_⊎_, inl, inr}
 use Prim.Native.Nat.{ℕ, zero, suc, _+_, _-_, _*_, _/_, _%_, _^_, _≤_, _<_}
 use native.Mathlib.Nat.{le-refl, le-trans, lt-of-lt-of-le, div-eq-of-lt, zero-lt-suc, not-suc-le-zero, le-of-suc-le-suc, eq-or-lt-of-le, mod-lt, mod-eq-of-lt, mul-comm, pow-suc, sub-add-cancel, mod-one}
 use native.Mathlib.Omega.{arith}
-use native.Mathlib.Numerals.{one-add}
+use native.Mathlib.Numerals.{one-add, add-one}
 use lib.Arith.{digits-lt}
 use lib.Pow.{high, low, field, pow-mono, mod-mod-pow, mod-pow-add}
 use Rattle.word.specs.Word.{bit, word}
@@ -17,6 +17,11 @@ unfolding word
 word-lt zero f h = zero-lt-suc 0
 word-lt (suc n) f h =
     subst (λ (x : ℕ). f n * 2 ^ n + word n f < x) (mul-comm 2 (2 ^ n) ∙ sym (pow-suc 2 n)) (digits-lt (h n) (word-lt n f h))
+
+-- a word with one place more
+pub word-more : (f : ℕ → ℕ) (n x b r : ℕ) → x ≡ f n → b ≡ word n f → r ≡ x * 2 ^ n + b → r ≡ word (n + 1) f
+unfolding word
+word-more f n x b r ex eb er = er ∙ ap₂ (λ (y c : ℕ). y * 2 ^ n + c) ex eb ∙ ap (λ (m : ℕ). word m f) (sym (add-one n))
 
 -- the bits below n are those of the n low digits
 pub bit-mod : (w k n : ℕ) → k < n → bit (w % 2 ^ n) k ≡ bit w k

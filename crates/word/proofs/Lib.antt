@@ -1,3 +1,4 @@
 pub mod Bits
 pub mod Turn
 pub mod Differing
+pub mod Tables

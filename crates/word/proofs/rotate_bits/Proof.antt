@@ -1,113 +1,57 @@
--- After row i and column j of the turned square, `b` is the word of its first `count` = i * edge + j places. Assumes nothing.
-use mathlib.Core.Path.{_≡_, refl, sym, ap, ap₂, _∙_, subst}
-use Prim.Native.Nat.{ℕ, _+_, _-_, _*_, _^_, _≤_, _<_}
-use native.Mathlib.Nat.{suc-mul}
-use native.Mathlib.Numerals.{add-one}
+-- Each table is computed to be the formula's, whole; other edges have the formula. Assumes nothing.
+use mathlib.Core.Path.{_≡_, refl, sym, ap, _∙_}
+use mathlib.Core.List.{List}
+use Prim.Native.Nat.{ℕ}
 use native.Mathlib.Omega.{arith}
-use Rattle.word.specs.Word.{bit, word, source, turn}
-use Rattle.word.proofs.Bits.{bit-lt, word-lt}
-use Rattle.word.proofs.Turn.{place-lt}
+use borrow.Author.Needs.{needs}
+use Rattle.lists.specs.Tab.{tabulate, all}
+use Rattle.word.specs.Word.{turn}
+use Rattle.word.specs.Sources.{sources, gathered}
+use Rattle.word.proofs.Tables.{no-table, table-turns}
 use Rattle.word.proofs.rotate_bits.Statement.{statement}
 use Rattle.word.proofs.rotate_bits.Tie as tie
 
--- the bit at each place of the turned word
-abbrev turned : ℕ → ℕ → ℕ → ℕ
-turned edge bits k = bit bits (source edge k)
+by-formula-requires : tie.Need-by-formula-requires
+by-formula-requires c κs =
+    let r = c .match .rest in
+    (omega arith, no-table (c .before .args .edge) (r .0 .0 .1) (r .0 .1) (r .1))
 
--- one place more
-grow : (e w count from b r : ℕ) → from ≡ source e count → b ≡ word count (turned e w)
-    → r ≡ bit w from * 2 ^ count + b → r ≡ word (count + 1) (turned e w)
-unfolding word
-grow e w count from b r ef eb er =
-    er ∙ ap₂ (λ (x y : ℕ). bit w x * 2 ^ count + y) ef eb ∙ ap (λ (x : ℕ). word x (turned e w)) (sym (add-one count))
+-- what a table that is the formula's gives for its edge
+by-its-table : (e edge w r : ℕ) (table : List ℕ) → edge ≡ e → table ≡ sources e → r ≡ gathered table w → r ≡ turn edge w
+by-its-table e edge w r table same right taken = taken ∙ table-turns e table right w ∙ ap (λ (n : ℕ). turn n w) (sym same)
 
-abbrev Inv-loop2 : tie.InvT-loop2
-Inv-loop2 bits edge e b₀ count₀ i j₀ b count j = (j ≤ e) × (count ≡ i * e + j) × (b ≡ word count (turned e bits))
-
-abbrev μ-loop2 : tie.MeasureT-loop2
-μ-loop2 bits edge e b₀ count₀ i j₀ b count j = e - j
-
-abbrev Inv-loop : tie.InvT-loop
-Inv-loop bits edge e b₀ count₀ i₀ b count i = (i ≤ e) × (count ≡ i * e) × (b ≡ word count (turned e bits))
-
-abbrev μ-loop : tie.MeasureT-loop
-μ-loop bits edge e b₀ count₀ i₀ b count i = e - i
-
-loop-holds : tie.Need-loop-holds Inv-loop2 μ-loop2 Inv-loop μ-loop
-unfolding word
-loop-holds c = (omega arith, omega arith, refl)
-
-loop2-holds : tie.Need-loop2-holds Inv-loop2 μ-loop2 Inv-loop μ-loop
-loop2-holds c = (omega arith, omega arith, c .before .loop .inv .2)
-
-source-place-requires : tie.Need-source-place-requires Inv-loop2 μ-loop2 Inv-loop μ-loop
-source-place-requires c κs = (omega arith, omega arith, omega arith)
-
-bit-at-requires : tie.Need-bit-at-requires Inv-loop2 μ-loop2 Inv-loop μ-loop
-bit-at-requires c κs = c .source-place .ensures .1
-
-with-bit-requires : tie.Need-with-bit-requires Inv-loop2 μ-loop2 Inv-loop μ-loop
-with-bit-requires c κs =
-    let l = c .before .before .before in
-    let e = l .before .before .before .args .edge in
-    let w = l .before .before .before .args .bits in (
-      omega (arith, place-lt e (l .before .before .loop .i) (l .loop2 .j) (omega arith) (omega arith) (omega arith)),
-      subst (λ (x : ℕ). x < 2 ^ l .loop2 .count) (sym (l .loop2 .inv .2)) (word-lt (l .loop2 .count) (turned e w) (λ k. bit-lt w (source e k))),
-      subst (λ (x : ℕ). x < 2) (sym (c .bit-at .ensures)) (bit-lt w (c .before .source-place .result)),
-    )
-
-add-count : tie.Need-add-count Inv-loop2 μ-loop2 Inv-loop μ-loop
-add-count c =
-    let l = c .before .before .before .before in
-    omega (arith, place-lt (l .before .before .before .args .edge) (l .before .before .loop .i) (l .loop2 .j) (omega arith) (omega arith) (omega arith))
-
-loop2-again : tie.Need-loop2-again Inv-loop2 μ-loop2 Inv-loop μ-loop
-loop2-again c =
-    let s = c .before .before in
-    let l = s .before .before in
-    let a = l .before .before .before .args in (
-      omega arith,
-      omega arith,
-      grow (a .edge) (a .bits) (l .loop2 .count) (s .source-place .result) (l .loop2 .b) (c .with-bit .result)
-          (s .source-place .ensures .0 ∙ ap (source (a .edge)) (sym (l .loop2 .inv .1))) (l .loop2 .inv .2)
-          (c .with-bit .ensures ∙ ap (λ (x : ℕ). x * 2 ^ l .loop2 .count + l .loop2 .b) (c .before .bit-at .ensures)),
-    )
-
-loop-again : tie.Need-loop-again Inv-loop2 μ-loop2 Inv-loop μ-loop
-loop-again c =
-    let l = c .before in
-    let e = l .before .before .before .args .edge in
-    let i = l .before .before .loop .i in
-    let j : l .loop2 .j ≡ e = omega arith in
-    let m : (i + 1) * e ≡ i * e + e = ap (λ (x : ℕ). x * e) (add-one i) ∙ suc-mul i e in
-    (omega arith, omega arith, l .loop2 .inv .2)
-
-returns : tie.Need-returns Inv-loop2 μ-loop2 Inv-loop μ-loop
-unfolding turn
+returns : tie.Need-returns
+unfolding tabulate
 returns c =
-    let l = c .before .loop in
-    let a = c .before .before .args in
-    let i : l .i ≡ a .edge = omega arith in
-    l .inv .2 ∙ ap (λ (x : ℕ). word x (turned (a .edge) (a .bits))) (l .inv .1 ∙ ap (λ (x : ℕ). x * a .edge) i)
+    let m = c .before .before in
+    by-its-table 4 (m .before .args .edge) (m .before .args .bits) (c .by-table .result) _ (m .match .keys1) refl (c .by-table .ensures)
+
+returns-2 : tie.Need-returns-2
+unfolding tabulate
+returns-2 c =
+    let m = c .before .before in
+    by-its-table 5 (m .before .args .edge) (m .before .args .bits) (c .by-table2 .result) _ (m .match .keys2) refl (c .by-table2 .ensures)
+
+returns-3 : tie.Need-returns-3
+unfolding tabulate
+returns-3 c =
+    let m = c .before .before in
+    by-its-table 6 (m .before .args .edge) (m .before .args .bits) (c .by-table3 .result) _ (m .match .keys3) refl (c .by-table3 .ensures)
 
 pub rotate-bits-spec : {M : Type 1} → statement M
+unfolding all
 rotate-bits-spec =
     tie.close
     (tie.spec
-    Inv-loop2
-    μ-loop2
-    Inv-loop
-    μ-loop
-    loop-holds
-    loop2-holds
-    source-place-requires
-    bit-at-requires
-    with-bit-requires
-    add-count
-    (λ c. omega arith)  -- add-j
-    (λ c. omega arith)  -- loop2-less
-    loop2-again
-    (λ c. omega arith)  -- add-i
-    (λ c. omega arith)  -- loop-less
-    loop-again
-    returns)
+    (λ c. search needs)  -- slice-aggregate-by-table
+    (λ c κs. (omega arith, refl))  -- by-table-requires
+    (λ c. search needs)  -- slice-aggregate-by-table-2
+    (λ c κs. (omega arith, refl))  -- by-table-requires-2
+    (λ c. search needs)  -- slice-aggregate-by-table-3
+    (λ c κs. (omega arith, refl))  -- by-table-requires-3
+    by-formula-requires
+    returns
+    returns-2
+    returns-3
+    (λ c. search needs)  -- returns-4
+    )
