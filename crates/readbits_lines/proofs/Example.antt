@@ -4,8 +4,8 @@ use mathlib.Core.List.{List, [], _∷_, _++_, flatMap}
 use Prim.Native.Nat.{ℕ}
 use Rattle.search.specs.Search.{searchFrom}
 use Rattle.readbits_lines.specs.Word.{numberFrom}
-use Rattle.readbits_lines.specs.Text.{lineFeed, bad, decimalWithin}
-use Rattle.readbits_lines.specs.Readbits.{readbits}
+use Rattle.text.specs.Text.{lineFeed, decimalWithin}
+use Rattle.readbits_lines.specs.Readbits.{bad, readbits}
 
 abbrev input : List ℕ
 input =

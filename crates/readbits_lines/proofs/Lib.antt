@@ -1,5 +1,3 @@
-pub mod Join
-pub mod Decimal
 pub mod Digits
 pub mod Within
 pub mod Lines

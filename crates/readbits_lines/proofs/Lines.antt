@@ -14,11 +14,11 @@ use Rattle.lists.specs.Tab.{all}
 use Rattle.lists.proofs.Bools.{and-left}
 use Rattle.readbits_lines.specs.Lines.{before, linesOf}
 use Rattle.readbits_lines.specs.Word.{isDigit, isWord, numberOf}
-use Rattle.readbits_lines.specs.Text.{lineFeed, bad}
-use Rattle.readbits_lines.specs.Readbits.{searched, afterWord, printedLine, readbits}
+use Rattle.text.specs.Text.{lineFeed}
+use Rattle.readbits_lines.specs.Readbits.{bad, searched, afterWord, printedLine, readbits}
 use Rattle.readbits_lines.proofs.Within.{after-short}
-use Rattle.readbits_lines.specs.Put.{Put, Printed}
-use Rattle.readbits_lines.proofs.Join.{put-more}
+use Rattle.text.specs.Put.{Put, Printed}
+use Rattle.text.proofs.Join.{put-more}
 
 pub first-line : (l : List ℕ) → 0 < length l → linesOf l ≡ take (indexOf lineFeed l) l ∷ linesOf (drop (suc (indexOf lineFeed l)) l)
 unfolding before linesOf indexOf indexAfter

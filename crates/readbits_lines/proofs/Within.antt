@@ -12,9 +12,9 @@ use Rattle.search.specs.declared.Found.{Found}
 use Rattle.search.specs.declared.Found.the-variants.{Tag, Refused}
 use Rattle.search.proofs.Search.{Means, search-means}
 use Rattle.tag_families.specs.Families.{codesOf}
-use Rattle.readbits_lines.specs.Text.{space, none, decimal}
-use Rattle.readbits_lines.specs.Readbits.{searched, afterWord}
-use Rattle.readbits_lines.proofs.Decimal.{decimal-length}
+use Rattle.text.specs.Text.{space, decimal}
+use Rattle.readbits_lines.specs.Readbits.{none, searched, afterWord}
+use Rattle.text.proofs.Decimal.{decimal-length}
 
 -- an id and a turn that the search gives
 found-small : (bits : ℕ) (seen : Seen) → searched bits ≡ accepted seen → (seen .id < 100) × (seen .turn < 4)

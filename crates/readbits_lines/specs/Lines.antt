@@ -3,7 +3,7 @@ use Prim.Native.Nat.{ℕ}
 use mathlib.Core.Bool.{cond}
 use mathlib.Core.List.{List, [], _∷_}
 use lib.Dec.{eqb}
-use Rattle.readbits_lines.specs.Text.{lineFeed}
+use Rattle.text.specs.Text.{lineFeed}
 
 -- byte b, which is no line feed, stands before the first of the lines; before none it is a line by itself
 unfoldable pub before : ℕ → List (List ℕ) → List (List ℕ)

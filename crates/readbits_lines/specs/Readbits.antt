@@ -7,7 +7,15 @@ use Rattle.search.specs.Search.{Seen, search}
 use Rattle.tag_families.specs.Families.{familyOf, codesOf}
 use Rattle.readbits_lines.specs.Lines.{linesOf}
 use Rattle.readbits_lines.specs.Word.{isWord, numberOf}
-use Rattle.readbits_lines.specs.Text.{space, lineFeed, none, bad, decimal}
+use Rattle.text.specs.Text.{space, lineFeed, decimal}
+
+-- `none`
+abbrev pub none : List ℕ
+none = 110 ∷ 111 ∷ 110 ∷ 101 ∷ []
+
+-- `bad`
+abbrev pub bad : List ℕ
+bad = 98 ∷ 97 ∷ 100 ∷ []
 
 -- the search for a word among the codes of T16H5, which is family 0
 unfoldable pub searched : ℕ → Outcome Seen

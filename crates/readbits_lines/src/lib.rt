@@ -1,16 +1,19 @@
 // What `readbits` prints for the bytes that it has read.
 use search::Found;
 use tag_families::codes::CODES;
+use text::put;
+use text::put_byte;
+use text::put_number;
 ghost use mathlib.Core.Path.{_≡_};
 ghost use mathlib.Core.Bool.{cond};
 ghost use mathlib.Core.List.{[], _∷_, _++_};
 ghost use Prim.Native.Nat.{_+_, _*_, _≤_, _<_};
 ghost use lib.ListN.{length};
 ghost use Rattle.readbits_lines.specs.Word.{isDigit, digitNumber, isWord, numberOf};
-ghost use Rattle.readbits_lines.specs.Text.{space, lineFeed, decimal};
+ghost use Rattle.text.specs.Text.{space, lineFeed, decimal};
 ghost use Rattle.search.specs.Answer.{paperFound};
 ghost use Rattle.readbits_lines.specs.Readbits.{searched, afterWord, printedLine, readbits};
-ghost use Rattle.readbits_lines.specs.Put.{Put, Printed};
+ghost use Rattle.text.specs.Put.{Put, Printed};
 
 // What a digit or a line stands for.
 enum Hex {
@@ -46,36 +49,6 @@ fn word(line: &[u8]) -> Hex
         i += 1;
     }
     Hex::Number(bits)
-}
-
-// Puts a text into `out` at place `at`, and gives the place after it.
-fn put(text: &[u8], out: &mut [u8], at: usize) -> usize
-    requires { ⌜ at + length (now text) ≤ length (now out) ⌝ }
-    ensures { λ r. ⌜ Put (now (text .entry)) (now (out .entry)) at (now (out .exit)) r ⌝ }
-{
-    at + bytes::copy(text, &mut out[at..])
-}
-
-// Puts one byte.
-fn put_byte(byte: u8, out: &mut [u8], at: usize) -> usize
-    requires { ⌜ at < length (now out) ⌝ }
-    ensures { λ r. ⌜ Put (byte ∷ []) (now (out .entry)) at (now (out .exit)) r ⌝ }
-{
-    out[at] = byte;
-    at + 1
-}
-
-// Puts a space and a number of one or two digits in decimal.
-fn put_number(n: u8, out: &mut [u8], at: usize) -> usize
-    requires { ⌜ (n < 100) × (at + 3 ≤ length (now out)) ⌝ }
-    ensures { λ r. ⌜ Put (space ∷ decimal n) (now (out .entry)) at (now (out .exit)) r ⌝ }
-{
-    let first = put_byte(b' ', out, at);
-    if n < 10 {
-        return put_byte(b'0' + n, out, first);
-    }
-    let second = put_byte(b'0' + n / 10, out, first);
-    put_byte(b'0' + n % 10, out, second)
 }
 
 // The search for a word among the codes of T16H5, which is family 0.

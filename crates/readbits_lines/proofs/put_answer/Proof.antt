@@ -3,12 +3,12 @@ use borrow.Author.Needs.{needs}
 use denote.Ref.{now}
 use mathlib.Core.Path.{ap}
 use mathlib.Core.List.{List, [], _∷_, _++_}
-use Prim.Native.Nat.{ℕ, _+_, _≤_}
+use Prim.Native.Nat.{ℕ, _+_, _≤_, _<_}
 use native.Mathlib.Omega.{arith}
 use lib.ListN.{length, length-append}
-use Rattle.readbits_lines.specs.Text.{space, lineFeed, decimal}
-use Rattle.readbits_lines.proofs.Decimal.{decimal-length}
-use Rattle.readbits_lines.proofs.Join.{put-more, as-text}
+use Rattle.text.specs.Text.{space, lineFeed, decimal}
+use Rattle.text.proofs.Decimal.{decimal-length}
+use Rattle.text.proofs.Join.{put-more, as-text}
 use Rattle.readbits_lines.proofs.Within.{IsTag, tag-found, none-found}
 use Rattle.readbits_lines.proofs.put_answer.Statement.{statement}
 use Rattle.readbits_lines.proofs.put_answer.Tie as tie
@@ -30,13 +30,16 @@ cast-put-number : tie.Need-cast-put-number
 cast-put-number c = omega (arith, found c .id-lt)
 
 put-number-requires : tie.Need-put-number-requires
-put-number-requires c κs = (found (c .before) .id-lt, omega arith)
+put-number-requires c κs =
+    let t = found (c .before) in
+    (t .id-lt, omega (arith, decimal-length (c .before .before .id .given .0 .0) (t .id-lt)))
 
 put-number-requires-2 : tie.Need-put-number-requires-2
 put-number-requires-2 c κs =
     let t = found (c .before .before .before .before .before) in
-    let id = c .before .before .before .before .before .before .id .given .0 .0 in
-    (omega (arith, t .turn-lt), omega (arith, c .before .before .before .put-number .ensures .place, decimal-length id (t .id-lt)))
+    let k = c .before .before .before .before .before .before in
+    let small : k .id .given .0 .1 .0 < 100 = omega (arith, t .turn-lt) in
+    (small, omega (arith, c .before .before .before .put-number .ensures .place, decimal-length (k .id .given .0 .0) (t .id-lt), decimal-length (k .id .given .0 .1 .0) small))
 
 put-byte-requires : tie.Need-put-byte-requires
 put-byte-requires c κs =

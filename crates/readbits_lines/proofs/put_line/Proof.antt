@@ -6,10 +6,10 @@ use mathlib.Core.List.{[], _∷_, _++_}
 use Prim.Native.Nat.{ℕ}
 use native.Mathlib.Omega.{arith}
 use Rattle.readbits_lines.specs.Word.{isWord, numberOf}
-use Rattle.readbits_lines.specs.Text.{lineFeed}
+use Rattle.text.specs.Text.{lineFeed}
 use Rattle.readbits_lines.specs.Readbits.{searched, afterWord}
 use Rattle.readbits_lines.proofs.Digits.{was-number, was-bad}
-use Rattle.readbits_lines.proofs.Join.{put-more, as-text}
+use Rattle.text.proofs.Join.{put-more, as-text}
 use Rattle.readbits_lines.proofs.Lines.{word-prints, bad-prints, word-four}
 use Rattle.readbits_lines.proofs.put_line.Statement.{statement}
 use Rattle.readbits_lines.proofs.put_line.Tie as tie

@@ -2,7 +2,7 @@
 use borrow.Author.Needs.{needs}
 use mathlib.Core.Path.{sym}
 use lib.Seq.{length-take-le}
-use Rattle.readbits_lines.proofs.Join.{printed-within}
+use Rattle.text.proofs.Join.{printed-within}
 use Rattle.readbits_run.proofs.run.Statement.{statement}
 use Rattle.readbits_run.proofs.run.Tie as tie
 

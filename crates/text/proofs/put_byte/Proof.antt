@@ -4,8 +4,8 @@ use mathlib.Core.Path.{refl}
 use mathlib.Core.List.{[], _∷_}
 use native.Mathlib.Omega.{arith}
 use lib.Seq.{sets-eq}
-use Rattle.readbits_lines.proofs.put_byte.Statement.{statement}
-use Rattle.readbits_lines.proofs.put_byte.Tie as tie
+use Rattle.text.proofs.put_byte.Statement.{statement}
+use Rattle.text.proofs.put_byte.Tie as tie
 
 returns : tie.Need-returns
 returns c = record { place = refl; bytes = sets-eq (c .args .byte ∷ []) (c .args .out .now) (c .args .at) (omega arith) }

@@ -7,7 +7,7 @@ use native.Mathlib.Decide.{decLt}
 use native.Mathlib.Omega.{arith}
 use borrow.Author.Tests.{lt-ltb, le-ltb}
 use lib.ListN.{length}
-use Rattle.readbits_lines.specs.Text.{decimalWithin, decimal}
+use Rattle.text.specs.Text.{decimalWithin, decimal}
 
 -- however many digits there is room for before it
 one-within : (more n : ℕ) → n < 10 → decimalWithin more n ≡ (48 + n) ∷ []

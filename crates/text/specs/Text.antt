@@ -1,4 +1,4 @@
--- Numbers and words as bytes. Assumes nothing.
+-- Numbers as bytes of a text. Assumes nothing.
 use Prim.Native.Nat.{ℕ, zero, suc, _+_, _/_, _%_}
 use mathlib.Core.Bool.{cond}
 use mathlib.Core.List.{List, [], _∷_, _++_}
@@ -9,14 +9,6 @@ space = 32
 
 abbrev pub lineFeed : ℕ
 lineFeed = 10
-
--- `none`
-abbrev pub none : List ℕ
-none = 110 ∷ 111 ∷ 110 ∷ 101 ∷ []
-
--- `bad`
-abbrev pub bad : List ℕ
-bad = 98 ∷ 97 ∷ 100 ∷ []
 
 -- n in decimal, where at most `more` digits stand before the last
 unfoldable pub decimalWithin : ℕ → ℕ → List ℕ

@@ -1,13 +1,13 @@
 -- One text put after another is the two put together. Assumes nothing.
 use mathlib.Core.Path.{_≡_, sym, ap, _∙_, subst}
-use mathlib.Core.List.{List, _++_, append-assoc, append-nil}
+use mathlib.Core.List.{List, [], _++_, append-assoc, append-nil}
 use Prim.Native.Nat.{ℕ, _+_, _-_, _≤_}
-use native.Mathlib.Nat.{add-assoc}
+use native.Mathlib.Nat.{add-zero, add-assoc}
 use native.Mathlib.Omega.{arith}
-use lib.ListN.{length, take, drop, length-append, length-drop, drop-of-length-le}
+use lib.ListN.{length, take, drop, length-append, length-drop, drop-of-length-le, take-append-drop}
 use lib.Seq.{take-at, take-all, take-length, drop-drop, drop-append-add, length-take-le}
 use borrow.Rule.Slice.PartMut.{putMid}
-use Rattle.readbits_lines.specs.Put.{Put, written, Printed}
+use Rattle.text.specs.Put.{Put, written, Printed}
 
 module _ (text buffer : List ℕ) (at : ℕ) (room : at + length text ≤ length buffer) where
   length-front : length (take at buffer ++ text) ≡ at + length text
@@ -28,6 +28,19 @@ module _ (text buffer : List ℕ) (at : ℕ) (room : at + length text ≤ length
       place = q .place ∙ ap (λ (n : ℕ). n + length more) (p .place) ∙ add-assoc at (length text) (length more) ∙ ap (λ (n : ℕ). at + n) (sym (length-append text more));
       bytes = q .bytes ∙ ap (λ (l : List ℕ). written l next more) (p .bytes) ∙ ap (λ (n : ℕ). written (written buffer at text) n more) (p .place) ∙ written-more;
     }
+
+-- nothing put leaves all as it is
+pub put-none : (buffer : List ℕ) (at : ℕ) → Put [] buffer at buffer at
+put-none buffer at = record {
+  place = sym (add-zero at);
+  bytes = sym (ap (λ (k : ℕ). take at buffer ++ [] ++ drop k buffer) (add-zero at) ∙ ap (λ (l : List ℕ). l ++ drop at buffer) (append-nil (take at buffer)) ∙ take-append-drop at buffer);
+}
+
+-- a text as long as the buffer is all that it holds then
+pub put-whole : (text buffer left : List ℕ) (next : ℕ) → length text ≡ length buffer → Put text buffer 0 left next → left ≡ text
+put-whole text buffer left next e p =
+    let covered : length buffer ≤ 0 + length text = omega arith in
+    p .bytes ∙ ap (λ (l : List ℕ). text ++ l) (drop-of-length-le buffer covered) ∙ append-nil text
 
 -- the same text under another name
 pub as-text : {text same buffer left : List ℕ} {at next : ℕ} → text ≡ same → Put text buffer at left next → Put same buffer at left next

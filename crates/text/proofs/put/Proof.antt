@@ -4,9 +4,9 @@ use denote.Ref.{now}
 use mathlib.Core.Path.{ap}
 use Prim.Native.Nat.{ℕ, _+_}
 use native.Mathlib.Omega.{arith}
-use Rattle.readbits_lines.proofs.Join.{copied}
-use Rattle.readbits_lines.proofs.put.Statement.{statement}
-use Rattle.readbits_lines.proofs.put.Tie as tie
+use Rattle.text.proofs.Join.{copied}
+use Rattle.text.proofs.put.Statement.{statement}
+use Rattle.text.proofs.put.Tie as tie
 
 returns : tie.Need-returns
 returns c =

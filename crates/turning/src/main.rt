@@ -1,0 +1,7 @@
+// Prints the tables of turned places from the formula, a line for each edge from 4 to 6.
+use libc::STDOUT_FILENO;
+
+fn main() {
+    let text = turning_lines::tables();
+    io::write_all(STDOUT_FILENO, &text);
+}
