@@ -7,15 +7,21 @@ check.py --write  first writes the list of definitions in docs/ARCHITECTURE.md a
 1. docs/ARCHITECTURE.md, "What a reader must believe": every file of definitions that a public contract, demand 3
    or a law of 02 leans on, with its lines. They are found by following imports from the crates in ROOTS.
 2. docs/TRACE.md: each name in `code` in the column of answers stands somewhere in the tree; a must-fail edit is a file.
+3. The tables of turned places: those of the code (crates/word/src/sources.rt) and the squares of docs/TURNING.md, number by
+   number, are what the program `turning` printed from the formula (crates/turning/stdout), and so is the page's example.
 """
 import re
 import sys
+from itertools import zip_longest
 from pathlib import Path
 
 ROOT = Path(__file__).resolve().parents[2]
-ROOTS = ["muosleap", "muosleap_paint", "muosleap_picture", "muosleap_c", "paper", "demand3", "readbits_lines"]
+ROOTS = ["muosleap", "muosleap_paint", "muosleap_picture", "muosleap_c", "paper", "demand3", "readbits_lines", "turning_lines"]
 ARCHITECTURE = ROOT / "docs/ARCHITECTURE.md"
 TRACE = ROOT / "docs/TRACE.md"
+TURNING = ROOT / "docs/TURNING.md"
+SOURCES = ROOT / "crates/word/src/sources.rt"
+PRINTED = ROOT / "crates/turning/stdout"
 LIST = re.compile(r"(?<=<!-- definitions -->\n).*?(?=<!-- end -->)", re.S)
 
 
@@ -73,6 +79,38 @@ def untraced():
             yield name
 
 
+def numbers(text):
+    return [int(number) for number in re.findall(r"\d+", text)]
+
+
+def differing(file, tables, printed):
+    """Where the tables of a file, by edge, are not the printed ones."""
+    if list(tables) != list(printed):
+        yield f"{file}: tables of the edges {list(tables)}, printed are {list(printed)}"
+    for edge in sorted(tables.keys() & printed.keys()):
+        for place, (found, wanted) in enumerate(zip_longest(tables[edge], printed[edge])):
+            if found != wanted:
+                yield f"{file}: edge {edge}, place {place}: {found}, printed is {wanted}"
+
+
+def misturned():
+    """Where the code and docs/TURNING.md differ from what `turning` printed: a line for each edge from 4 up."""
+    printed = {edge: numbers(line) for edge, line in enumerate(PRINTED.read_text(encoding="utf8").splitlines(), 4)}
+    code, page = (file.read_text(encoding="utf8") for file in (SOURCES, TURNING))
+    tables = re.findall(r"const EDGE_(\d+): \[u8; \d+\] = \[([^\]]*)\];", code)
+    yield from differing("crates/word/src/sources.rt", {int(edge): numbers(table) for edge, table in tables}, printed)
+    squares = re.findall(r"### Edge (\d+)\n\n```\n(.*?)```", page, re.S)
+    yield from differing("docs/TURNING.md", {int(edge): numbers(square) for edge, square in squares}, printed)
+    for edge, square in squares:
+        if any(len(numbers(row)) != int(edge) for row in square.splitlines()):
+            yield f"docs/TURNING.md: edge {edge} is no square"
+    example = [(place, printed[4][place], 0x231B >> printed[4][place] & 1) for place in range(16)]
+    if [tuple(map(int, row)) for row in re.findall(r"^\| (\d+) \| (\d+) \| ([01]) \|$", page, re.M)] != example:
+        yield "docs/TURNING.md: the example is not 231B turned by the printed table"
+    if sum(bit << place for place, _, bit in example) != 0x7D01:
+        yield "crates/turning/stdout: 231B turned by it is not 7D01"
+
+
 def main():
     found = definitions()
     text = ARCHITECTURE.read_text(encoding="utf8")
@@ -83,6 +121,7 @@ def main():
     if not LIST.search(text) or LIST.search(text)[0] != found:
         wrong.append("docs/ARCHITECTURE.md: the list of definitions is not the tree's; tools/docs/check.py --write writes it anew")
     wrong += [f"docs/TRACE.md: no `{name}` in the tree" for name in untraced()]
+    wrong += misturned()
     print("\n".join(wrong) or "documents: as the tree has it")
     return 1 if wrong else 0
 

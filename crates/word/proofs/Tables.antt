@@ -11,7 +11,8 @@ use lib.ListN.{length, getD}
 use Rattle.lists.proofs.Bools.{and-not-left, and-not-right}
 use Rattle.lists.proofs.Tab.{length-tabulate, getD-tabulate}
 use Rattle.word.specs.Word.{bit, word, source, turn}
-use Rattle.word.specs.Sources.{hasTable, sources, gathered}
+use Rattle.word.specs.Sources.{hasTable, sources}
+use Rattle.word.specs.Gathered.{gathered}
 use Rattle.word.proofs.Bits.{word-ext}
 
 -- an edge that is none of the three has no table

@@ -11,7 +11,8 @@ ghost use lib.Dec.{ltb};
 ghost use lib.ListN.{length};
 ghost use Rattle.lists.specs.Tab.{all};
 ghost use Rattle.word.specs.Word.{bit, source, turn, differing};
-ghost use Rattle.word.specs.Sources.{hasTable, gathered};
+ghost use Rattle.word.specs.Sources.{hasTable};
+ghost use Rattle.word.specs.Gathered.{gathered};
 
 // The bit of `bits` at place `k`.
 fn bit_at(bits: u64, k: u64) -> u64

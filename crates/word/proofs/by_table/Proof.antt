@@ -11,7 +11,7 @@ use lib.ListN.{length, getD}
 use Rattle.lists.specs.Tab.{all}
 use Rattle.lists.proofs.All.{all-at}
 use Rattle.word.specs.Word.{bit, word}
-use Rattle.word.specs.Sources.{gathered}
+use Rattle.word.specs.Gathered.{gathered}
 use Rattle.word.proofs.Bits.{bit-lt, word-lt, word-more}
 use Rattle.word.proofs.by_table.Statement.{statement}
 use Rattle.word.proofs.by_table.Tie as tie

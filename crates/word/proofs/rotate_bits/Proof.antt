@@ -6,7 +6,8 @@ use native.Mathlib.Omega.{arith}
 use borrow.Author.Needs.{needs}
 use Rattle.lists.specs.Tab.{tabulate, all}
 use Rattle.word.specs.Word.{turn}
-use Rattle.word.specs.Sources.{sources, gathered}
+use Rattle.word.specs.Sources.{sources}
+use Rattle.word.specs.Gathered.{gathered}
 use Rattle.word.proofs.Tables.{no-table, table-turns}
 use Rattle.word.proofs.rotate_bits.Statement.{statement}
 use Rattle.word.proofs.rotate_bits.Tie as tie

@@ -11,6 +11,7 @@ pub fn jobs() -> Vec<Job> {
     [
         job("families: edge, border, threshold, codes", families),
         job("rotate_bits: edges 1 to 8, random words", turns),
+        job("turning: each place of the printed tables", printed_tables),
         job("best_tag: all 65,536 words of T16H5", |tally| sweep(Family::T16H5, 0..1 << 16, tally)),
         parts("best_tag: all 2^25 words of T25H7", 64, |k, tally| sweep(Family::T25H7, k << 19..(k + 1) << 19, tally)),
         parts("best_tag: all 2^25 words of T25H9", 64, |k, tally| sweep(Family::T25H9, k << 19..(k + 1) << 19, tally)),
@@ -43,6 +44,16 @@ fn turns(tally: &mut Tally) {
         let words = (0..64).map(|place| 1 << place).chain([0, u64::MAX]).chain((0..500_000).map(|_| numbers.next()));
         for bits in words.collect::<Vec<u64>>() {
             tally.same(rotate_bits(bits, edge), Ok(turned(bits, edge)), || format!("edge {edge}, word {bits:#x}"));
+        }
+    }
+}
+
+/// The bit at the place that a table has for place k, turned by the original, is the bit at place k.
+fn printed_tables(tally: &mut Tally) {
+    let text = include_str!("../../../../../crates/turning/stdout");
+    for (edge, line) in (4..).zip(text.lines()) {
+        for (place, from) in line.split(' ').enumerate() {
+            tally.same(1 << place, turned(1 << from.parse::<u32>().unwrap(), edge), || format!("edge {edge}, place {place}"));
         }
     }
 }

@@ -31,8 +31,21 @@ fn search(words: &[u64], turn: Option<u8>) -> Times {
     both(words.len(), || timed(|| each_word(words, theirs)), || timed(|| each_word(words, ours)))
 }
 
-fn turned(word: u64) -> u64 {
-    rotate_bits(word, FAMILY.table().edge).unwrap()
+fn turned(word: u64, edge: u8) -> u64 {
+    rotate_bits(word, edge).unwrap()
+}
+
+/// One turn of each word at an edge, which neither side is told beforehand.
+fn turns(words: &[u64], edge: u8) -> Times {
+    let edge = || black_box(edge);
+    for &word in words {
+        assert_eq!(turned(word, edge()), original::turned(word, edge()));
+    }
+    both(
+        words.len(),
+        || timed(|| each_word(words, |word| original::turned(word, edge()) as usize & 1)),
+        || timed(|| each_word(words, |word| turned(word, edge()) as usize & 1)),
+    )
 }
 
 /// The search and a turn.
@@ -40,16 +53,14 @@ pub fn words() -> Vec<(String, Times)> {
     let clean = FAMILY.codes().to_vec();
     let mut numbers = Numbers::from(SEED + 6_100);
     let misread: Vec<u64> = clean.iter().map(|&code| code ^ 1 << numbers.below(18) ^ 1 << (18 + numbers.below(18))).collect();
-    let third: Vec<u64> = clean.iter().map(|&code| turned(code)).collect();
+    let third: Vec<u64> = clean.iter().map(|&code| turned(code, FAMILY.table().edge)).collect();
     let random = std::iter::repeat_with(|| numbers.next() >> 28);
     let unread: Vec<u64> = random.filter(|&word| FAMILY.table().best_tag(word) == Err(Refusal::NoCode)).take(587).collect();
-    let turns = both(
-        clean.len(),
-        || timed(|| each_word(&clean, |word| original::turned(word, 6) as usize & 1)),
-        || timed(|| each_word(&clean, |word| turned(word) as usize & 1)),
-    );
     vec![
-        ("`rotate_bits`, edge 6".into(), turns),
+        ("`rotate_bits`, edge 4".into(), turns(&clean, 4)),
+        ("`rotate_bits`, edge 5".into(), turns(&clean, 5)),
+        ("`rotate_bits`, edge 6".into(), turns(&clean, 6)),
+        ("`rotate_bits`, edge 8, by the formula".into(), turns(&clean, 8)),
         ("`best_tag`, clean, each of the 587 codes".into(), search(&clean, Some(0))),
         ("`best_tag`, two bits misread".into(), search(&misread, Some(0))),
         ("`best_tag`, clean, at turn 3".into(), search(&third, Some(3))),
