@@ -4,18 +4,18 @@ use mathlib.Core.List.{List, [], _∷_, _++_, flatMap}
 use Rattle.text.specs.Text.{space, lineFeed, decimal}
 use Rattle.word.specs.Sources.{sources}
 
--- "in decimal, one space between"
+-- numbers "in decimal, one space between"
 unfoldable pub spaced : List ℕ → List ℕ
 unfolding flatMap
 spaced [] = []
 spaced (n ∷ more) = decimal n ++ flatMap (λ m. space ∷ decimal m) more
 
--- "one line for each edge": "for every turned place from 0 on, the place its bit comes from", and "a line feed at the end of each line"
+-- the line of an edge: "for every turned place from 0 on, the place its bit comes from"; a line feed ends it
 unfoldable pub line : ℕ → List ℕ
 unfolding spaced
 line edge = spaced (sources edge) ++ (lineFeed ∷ [])
 
--- the whole text: "one line for each edge from 4 up to 6", "and nothing else"
+-- the whole text: "one line for each edge from 4 up", for those that have a table, and nothing else
 unfoldable pub printed : List ℕ
 unfolding flatMap line
 printed = flatMap line (4 ∷ 5 ∷ 6 ∷ [])
