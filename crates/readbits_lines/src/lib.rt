@@ -10,7 +10,7 @@ ghost use mathlib.Core.List.{[], _∷_, _++_};
 ghost use Prim.Native.Nat.{_+_, _*_, _≤_, _<_};
 ghost use lib.ListN.{length};
 ghost use Rattle.readbits_lines.specs.Word.{isDigit, digitNumber, isWord, numberOf};
-ghost use Rattle.text.specs.Text.{space, lineFeed, decimal};
+ghost use Rattle.text.specs.Text.{lineFeed};
 ghost use Rattle.search.specs.Answer.{paperFound};
 ghost use Rattle.readbits_lines.specs.Readbits.{searched, afterWord, printedLine, readbits};
 ghost use Rattle.text.specs.Put.{Put, Printed};

@@ -1,5 +1,4 @@
 // Text as bytes, put into a buffer piece by piece: each function gives the place after what it has put.
-ghost use mathlib.Core.Path.{_≡_};
 ghost use mathlib.Core.List.{[], _∷_};
 ghost use Prim.Native.Nat.{_+_, _≤_, _<_};
 ghost use lib.ListN.{length};

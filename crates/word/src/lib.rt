@@ -74,7 +74,7 @@ fn by_formula(bits: u64, edge: u8) -> u64
     b
 }
 
-// The square turned once.
+// The square turned once. Each table has a call of its own: there the compiler knows all of its numbers, and the loop becomes a run of moves.
 pub fn rotate_bits(bits: u64, edge: u8) -> u64
     requires { ⌜ (0 < edge) × (edge ≤ 8) ⌝ }
     ensures { λ r. ⌜ r ≡ turn edge bits ⌝ }
