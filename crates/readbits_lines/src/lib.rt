@@ -7,7 +7,7 @@ use text::put_number;
 ghost use mathlib.Core.Path.{_≡_};
 ghost use mathlib.Core.Bool.{cond};
 ghost use mathlib.Core.List.{[], _∷_, _++_};
-ghost use Prim.Native.Nat.{_+_, _*_, _≤_, _<_};
+ghost use Prim.Native.Nat.{_+_, _*_, _≤_};
 ghost use lib.ListN.{length};
 ghost use Rattle.readbits_lines.specs.Word.{isDigit, digitNumber, isWord, numberOf};
 ghost use Rattle.text.specs.Text.{lineFeed};
