@@ -6,7 +6,7 @@ use native.Mathlib.Nat.{le-refl, le-trans, lt-of-lt-of-le, div-eq-of-lt, zero-lt
 use native.Mathlib.Omega.{arith}
 use native.Mathlib.Numerals.{one-add, add-one}
 use lib.Arith.{digits-lt}
-use lib.Pow.{high, low, field, pow-mono, mod-mod-pow, mod-pow-add}
+use lib.Pow.{high, low, field, pow-mono, split, shr-shr, mod-mod-pow, mod-pow-add}
 use Rattle.word.specs.Word.{bit, word}
 
 pub bit-lt : (w k : ℕ) → bit w k < 2
@@ -59,6 +59,10 @@ word-ext (suc n) f g h =
 pub same-bits : (n a b : ℕ) → a < 2 ^ n → b < 2 ^ n → ((k : ℕ) → k < n → bit a k ≡ bit b k) → a ≡ b
 same-bits n a b ha hb h =
     sym (mod-eq-of-lt ha) ∙ sym (word-mod n a) ∙ word-ext n (bit a) (bit b) h ∙ word-mod n b ∙ mod-eq-of-lt hb
+
+-- a word without its m low places, from the word without one place more
+pub word-lower : (w m : ℕ) → w / 2 ^ (m + 1) * 2 + bit w m ≡ w / 2 ^ m
+word-lower w m = ap (λ (x : ℕ). x * 2 + bit w m) (sym (shr-shr w m 1)) ∙ split (w / 2 ^ m) 1
 
 -- above its places a word has no bit
 pub bit-above : (n w k : ℕ) → w < 2 ^ n → n ≤ k → bit w k ≡ 0

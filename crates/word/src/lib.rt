@@ -52,24 +52,21 @@ fn by_table(bits: u64, table: &[u8]) -> u64
     b
 }
 
-// The square turned once by the formula, which is for the edges that have no table.
+// The square turned once by the formula, which is for the edges that have no table: from the highest place down.
 fn by_formula(bits: u64, edge: u8) -> u64
     requires { ⌜ (edge ≤ 8) × (hasTable edge ≡ false) ⌝ }
     ensures { λ r. ⌜ r ≡ turn edge bits ⌝ }
 {
     let e = edge as u64;
     let mut b: u64 = 0;
-    let mut count: u64 = 0;
-    let mut i: u64 = 0;
-    while i < e {
-        let mut j: u64 = 0;
-        while j < e {
-            let from = source_place(e, i, j);
-            b = with_bit(b, count, bit_at(bits, from));
-            count += 1;
-            j += 1;
+    let mut i = e;
+    while i > 0 {
+        i -= 1;
+        let mut j = e;
+        while j > 0 {
+            j -= 1;
+            b = b * 2 + bit_at(bits, source_place(e, i, j));
         }
-        i += 1;
     }
     b
 }
