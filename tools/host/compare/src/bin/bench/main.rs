@@ -42,7 +42,7 @@ an unmodified copy of their files. Both sides are release builds for plain x86-6
 before a row is measured, both sides' answers are held to be the same, where both give one. A time is the median of 15 rounds of about 20 ms.";
 
 #[cfg(original)]
-const WORDS: &str = "T36H11, 587 codes of 6 × 6 bits. Time for one word.";
+const WORDS: &str = "T36H11, 587 codes of 6 × 6 bits; a turn takes these words at each edge. Time for one word.";
 
 #[cfg(original)]
 const QUADS: &str = "Tags of T36H11 on a picture of 1920 × 1080 with noise, at turn 0. The original's times are those of its `bit_code` and \
