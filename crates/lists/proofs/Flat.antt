@@ -33,6 +33,23 @@ module _ {ℓ} {B : Type ℓ} where
       sets-eq vs (p ++ x) 0 (omega (arith, length-append p x))
       ∙ ap (λ (y : List B). vs ++ y) (ap (λ (n : ℕ). drop n (p ++ x)) (zero-add (length vs)) ∙ drop-at p x (length vs) (sym e))
 
+module _ {ℓ κ} {A : Type ℓ} {B : Type κ} (f : A → List B) where
+  -- parts of any widths: one more, and that those before are a front of all
+  pub flat-more : (n : ℕ) (g : ℕ → A) → flatMap f (tabulate (suc n) g) ≡ flatMap f (tabulate n g) ++ f (g n)
+  unfolding flatMap tabulate
+  flat-more zero g = append-nil (f (g 0))
+  flat-more (suc n) g =
+      ap (λ (x : List B). f (g 0) ++ x) (flat-more n (λ i. g (suc i)))
+      ∙ sym (append-assoc (f (g 0)) (flatMap f (tabulate n (λ i. g (suc i)))) (f (g (suc n))))
+
+  pub flat-within : (j n : ℕ) (g : ℕ → A) → j ≤ n → length (flatMap f (tabulate j g)) ≤ length (flatMap f (tabulate n g))
+  unfolding flatMap tabulate
+  flat-within zero n g h = omega arith
+  flat-within (suc j) zero g h = absurd (not-suc-le-zero h)
+  flat-within (suc j) (suc n) g h =
+      let rest : ℕ → List B = λ k. flatMap f (tabulate k (λ i. g (suc i))) in
+      omega (arith, flat-within j n (λ i. g (suc i)) (le-of-suc-le-suc h), length-append (f (g 0)) (rest j), length-append (f (g 0)) (rest n))
+
 module _ {ℓ κ} {A : Type ℓ} {B : Type κ} (f : A → List B) (w : ℕ) (wide : (a : A) → length (f a) ≡ w) where
   pub length-flat : (l : List A) → length (flatMap f l) ≡ w * length l
   unfolding flatMap
@@ -80,13 +97,6 @@ module _ {ℓ κ} {A : Type ℓ} {B : Type κ} (f : A → List B) (w : ℕ) (wid
       let same : length (flatMap f (set l q v)) ≡ length (flatMap f l) = length-flat (set l q v) ∙ ap (λ (n : ℕ). w * n) (length-set l q v) ∙ sym (length-flat l) in
       part-anew l (drop (length (flatMap f l)) output) q v h ∙ ap (λ (n : ℕ). flatMap f (set l q v) ++ drop n output) (sym same)
 
-  flat-more : (n : ℕ) (g : ℕ → A) → flatMap f (tabulate (suc n) g) ≡ flatMap f (tabulate n g) ++ f (g n)
-  unfolding flatMap tabulate
-  flat-more zero g = append-nil (f (g 0))
-  flat-more (suc n) g =
-      ap (λ (x : List B). f (g 0) ++ x) (flat-more n (λ i. g (suc i)))
-      ∙ sym (append-assoc (f (g 0)) (flatMap f (tabulate n (λ i. g (suc i)))) (f (g (suc n))))
-
   -- ---- the loop that writes the parts of g 0, g 1, ..
 
   pub parts-none : (g : ℕ → A) (output : List B) → output ≡ inFront (flatMap f (tabulate 0 g)) output
@@ -106,7 +116,7 @@ module _ {ℓ κ} {A : Type ℓ} {B : Type κ} (f : A → List B) (w : ℕ) (wid
       ∙ ap (λ (x : List B). x ++ v ++ drop (w * q + length v) (p ++ rest)) (take-at p rest (w * q) size)
       ∙ ap (λ (x : List B). p ++ v ++ x) (ap (λ (n : ℕ). drop (n + length v) (p ++ rest)) (sym size) ∙ drop-append-add p rest (length v) ∙ drop-drop (length v) (length p) output)
       ∙ ap (λ (n : ℕ). p ++ v ++ drop n output) (sym (length-append p v))
-      ∙ ap (λ (x : List B). inFront x output) (sym (flat-more q g) ∙ ap (λ (n : ℕ). flatMap f (tabulate n g)) (sym (add-one q)))
+      ∙ ap (λ (x : List B). inFront x output) (sym (flat-more f q g) ∙ ap (λ (n : ℕ). flatMap f (tabulate n g)) (sym (add-one q)))
 
   -- ---- the loop that looks at each part of l again and writes some anew, so that part q becomes that of g q
 

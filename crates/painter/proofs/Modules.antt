@@ -1,8 +1,7 @@
 -- The module of a print's cell, and where the word has it. Assumes nothing.
 use mathlib.Core.Path.{_≡_, sym, ap, ap₂, _∙_}
 use mathlib.Core.Bool.{Bool, true, false, _&&_, and-false, and-assoc}
-use Prim.Native.Nat.{ℕ, _+_, _-_, _*_, _<_, _≤_}
-use native.Mathlib.Nat.{mul-le-mul}
+use Prim.Native.Nat.{ℕ, _+_, _-_, _*_, _<_}
 use native.Mathlib.Omega.{arith}
 use lib.Arith.{digits-lt}
 use lib.Dec.{eqb}
@@ -10,10 +9,6 @@ use Rattle.painter.specs.Picture.{between}
 use Rattle.painter.specs.Tag.{cellAt, moduleBit, isLight}
 use Rattle.painter.specs.declared.Cell.{Cell}
 use Rattle.painter.proofs.Runs.{within}
-
--- a square of an edge up to 8 has no more than 64 modules
-pub square-le : (edge : ℕ) → edge ≤ 8 → edge * edge ≤ 64
-square-le edge h = mul-le-mul h h
 
 pub module-lt : (edge i j : ℕ) → i < edge → j < edge → i * edge + j < edge * edge
 module-lt edge i j hi hj = digits-lt hi hj

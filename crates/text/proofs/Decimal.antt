@@ -28,3 +28,9 @@ decimal-length n h = elim (decLt n 10) [
   | yes l ↦ omega (arith, ap length (one-digit n l))
   | no g ↦ omega (arith, ap length (two-digits n (omega arith) h))
 ]
+
+pub decimal-some : (n : ℕ) → n < 100 → 0 < length (decimal n)
+decimal-some n h = elim (decLt n 10) [
+  | yes l ↦ omega (arith, ap length (one-digit n l))
+  | no g ↦ omega (arith, ap length (two-digits n (omega arith) h))
+]

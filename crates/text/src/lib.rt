@@ -30,15 +30,15 @@ pub fn put_decimal(n: u8, out: &mut [u8], at: usize) -> usize
     if n < 10 {
         return put_byte(b'0' + n, out, at);
     }
-    let ones = put_byte(b'0' + n / 10, out, at);
-    put_byte(b'0' + n % 10, out, ones)
+    let tens_end = put_byte(b'0' + n / 10, out, at);
+    put_byte(b'0' + n % 10, out, tens_end)
 }
 
-// Puts a space and such a number.
+// Puts a space and a number of one or two digits in decimal.
 pub fn put_number(n: u8, out: &mut [u8], at: usize) -> usize
-    requires { ⌜ (n < 100) × (at + length (space ∷ decimal n) ≤ length (now out)) ⌝ }
+    requires { ⌜ (n < 100) × (at + 3 ≤ length (now out)) ⌝ }
     ensures { λ r. ⌜ Put (space ∷ decimal n) (now (out .entry)) at (now (out .exit)) r ⌝ }
 {
-    let number = put_byte(b' ', out, at);
-    put_decimal(n, out, number)
+    let space_end = put_byte(b' ', out, at);
+    put_decimal(n, out, space_end)
 }

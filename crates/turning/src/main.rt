@@ -2,6 +2,6 @@
 use libc::STDOUT_FILENO;
 
 fn main() {
-    let text = turning_lines::tables();
+    let text = turning_lines::table_lines();
     io::write_all(STDOUT_FILENO, &text);
 }

@@ -1,12 +1,12 @@
 -- A line as the loop puts it: the number of place 0, then of each further place a space and its number, then the line feed. Assumes nothing.
-use mathlib.Core.Path.{_≡_, refl, sym, ap, _∙_}
-use mathlib.Core.List.{List, [], _∷_, _++_, flatMap, append-assoc, append-nil}
+use mathlib.Core.Path.{_≡_, sym, ap, _∙_}
+use mathlib.Core.List.{List, [], _∷_, _++_, flatMap}
 use Prim.Native.Nat.{ℕ, suc, _+_, _-_, _*_, _≤_, _<_}
-use native.Mathlib.Nat.{add-zero}
+use native.Mathlib.Numerals.{add-one}
 use native.Mathlib.Omega.{arith}
 use lib.ListN.{length, length-append}
 use Rattle.lists.specs.Tab.{tabulate}
-use Rattle.lists.proofs.Rows.{tabulate-add}
+use Rattle.lists.proofs.Flat.{flat-more, flat-within}
 use Rattle.text.specs.Text.{space, lineFeed, decimal}
 use Rattle.word.specs.Word.{source}
 use Rattle.turning_lines.specs.Turning.{spaced, line}
@@ -14,32 +14,16 @@ use Rattle.turning_lines.specs.Turning.{spaced, line}
 abbrev pub piece : ℕ → List ℕ
 piece n = space ∷ decimal n
 
-flat-append : (l r : List ℕ) → flatMap piece (l ++ r) ≡ flatMap piece l ++ flatMap piece r
-unfolding flatMap
-flat-append [] r = refl
-flat-append (n ∷ l) r = ap (λ (x : List ℕ). piece n ++ x) (flat-append l r) ∙ sym (append-assoc (piece n) (flatMap piece l) (flatMap piece r))
-
 module _ (f : ℕ → ℕ) where
   -- what is put for the places 1 to j
   abbrev pub pieces : ℕ → List ℕ
   pieces j = flatMap piece (tabulate j (λ i. f (suc i)))
 
-  pieces-add : (j m : ℕ) → pieces (j + m) ≡ pieces j ++ flatMap piece (tabulate m (λ i. f (suc (j + i))))
-  pieces-add j m = ap (flatMap piece) (tabulate-add j m (λ i. f (suc i))) ∙ flat-append (tabulate j (λ i. f (suc i))) (tabulate m (λ i. f (suc (j + i))))
-
   pub pieces-more : (j : ℕ) → pieces j ++ piece (f (suc j)) ≡ pieces (j + 1)
-  unfolding flatMap tabulate
-  pieces-more j =
-      ap (λ (i : ℕ). pieces j ++ piece (f (suc i))) (sym (add-zero j))
-      ∙ ap (λ (x : List ℕ). pieces j ++ x) (sym (append-nil (piece (f (suc (j + 0))))))
-      ∙ sym (pieces-add j 1)
+  pieces-more j = sym (flat-more piece j (λ i. f (suc i))) ∙ ap pieces (sym (add-one j))
 
   pub pieces-within : (j n : ℕ) → j ≤ n → length (pieces j) ≤ length (pieces n)
-  pieces-within j n h =
-      let m = n - j in
-      let e : n ≡ j + m = omega arith in
-      let rest = flatMap piece (tabulate m (λ i. f (suc (j + i)))) in
-      omega (arith, ap (λ (k : ℕ). length (pieces k)) e, ap length (pieces-add j m), length-append (pieces j) rest)
+  pieces-within j n h = flat-within piece j n (λ i. f (suc i)) h
 
 module _ (e : ℕ) where
   -- place k is put behind those before it
@@ -64,12 +48,12 @@ module _ (e : ℕ) where
         ∙ length-append (decimal (source e 0) ++ pieces (source e) last) (lineFeed ∷ [])
         ∙ ap (λ (n : ℕ). n + 1) (length-append (decimal (source e 0)) (pieces (source e) last))
 
-    -- where there is room for the line, there is room for a line feed after the places before place k, and for the number of place k
+    -- where there is room for the line, there is room for a line feed after the places before place k, and after the number of place k
     module _ (k size at first end : ℕ) (some : 1 ≤ k) (room : at + length (line e) ≤ size) (begun : first ≡ at + length (decimal (source e 0))) (so-far : end ≡ first + length (pieces (source e) (k - 1))) where
       pub feed-fits : k ≤ e * e → end < size
       feed-fits h = omega (arith, line-length, pieces-within (source e) (k - 1) last (omega arith))
 
-      pub next-fits : k < e * e → end + length (piece (source e k)) ≤ size
+      pub next-fits : k < e * e → end + length (piece (source e k)) < size
       next-fits h =
           omega (
             arith,

@@ -15,7 +15,7 @@ unfoldable pub line : ℕ → List ℕ
 unfolding spaced
 line edge = spaced (sources edge) ++ (lineFeed ∷ [])
 
--- the whole text: "one line for each edge from 4 up", for those that have a table, and nothing else
-unfoldable pub printed : List ℕ
+-- what `turning` prints: "one line for each edge from 4 up", to 6, and nothing else
+unfoldable pub turning : List ℕ
 unfolding flatMap line
-printed = flatMap line (4 ∷ 5 ∷ 6 ∷ [])
+turning = flatMap line (4 ∷ 5 ∷ 6 ∷ [])

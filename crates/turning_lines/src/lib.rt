@@ -7,7 +7,7 @@ ghost use Prim.Native.Nat.{_+_, _*_, _≤_, _<_};
 ghost use lib.ListN.{length};
 ghost use Rattle.word.specs.Word.{source};
 ghost use Rattle.text.specs.Put.{Put};
-ghost use Rattle.turning_lines.specs.Turning.{line, printed};
+ghost use Rattle.turning_lines.specs.Turning.{line, turning};
 
 // The place that the bit at place `k` of a turned square comes from.
 fn source_of(edge: u64, k: u64) -> u8
@@ -32,12 +32,12 @@ fn put_line(edge: u64, out: &mut [u8], at: usize) -> usize
 }
 
 // The whole text, which has 201 bytes.
-pub fn tables() -> [u8; 201]
-    ensures { λ r. ⌜ r ≡ printed ⌝ }
+pub fn table_lines() -> [u8; 201]
+    ensures { λ r. ⌜ r ≡ turning ⌝ }
 {
     let mut out = [0u8; 201];
-    let five = put_line(4, &mut out, 0);
-    let six = put_line(5, &mut out, five);
-    put_line(6, &mut out, six);
+    let four_end = put_line(4, &mut out, 0);
+    let five_end = put_line(5, &mut out, four_end);
+    put_line(6, &mut out, five_end);
     out
 }

@@ -1,4 +1,4 @@
--- A table that is the formula's, tested by computing it whole, turns the square: one law carries the test to each place, for all edges together. Assumes nothing.
+-- The tables of turned places: one that is the formula's, which is computed over the whole of it, is so at each place, for all edges together. Assumes nothing.
 use mathlib.Core.Path.{_≡_, ap, _∙_}
 use mathlib.Core.Bool.{false}
 use mathlib.Core.List.{List}
@@ -10,10 +10,8 @@ use lib.Dec.{leb}
 use lib.ListN.{length, getD}
 use Rattle.lists.proofs.Bools.{and-not-left, and-not-right}
 use Rattle.lists.proofs.Tab.{length-tabulate, getD-tabulate}
-use Rattle.word.specs.Word.{bit, word, source, turn}
+use Rattle.word.specs.Word.{source}
 use Rattle.word.specs.Sources.{hasTable, sources}
-use Rattle.word.specs.Gathered.{gathered}
-use Rattle.word.proofs.Bits.{word-ext}
 
 -- an edge that is none of the three has no table
 pub no-table : (e : ℕ) → (e ≡ 4 → ⊥) → (e ≡ 5 → ⊥) → (e ≡ 6 → ⊥) → hasTable e ≡ false
@@ -23,14 +21,8 @@ no-table e four five six = elim (decLt e 4) [
 ]
 
 module _ (e : ℕ) (table : List ℕ) (right : table ≡ sources e) where
-  table-length : length table ≡ e * e
+  pub table-length : length table ≡ e * e
   table-length = ap length right ∙ length-tabulate (e * e) (source e)
 
   pub table-place : (k : ℕ) → k < e * e → getD table k 0 ≡ source e k
   table-place k l = ap (λ (t : List ℕ). getD t k 0) right ∙ getD-tabulate (e * e) (source e) k 0 l
-
-  pub table-turns : (w : ℕ) → gathered table w ≡ turn e w
-  unfolding gathered turn
-  table-turns w =
-      ap (λ (n : ℕ). word n (λ k. bit w (getD table k 0))) table-length
-      ∙ word-ext (e * e) (λ k. bit w (getD table k 0)) (λ k. bit w (source e k)) (λ k l. ap (bit w) (table-place k l))

@@ -6,7 +6,8 @@ use borrow.Author.Needs.{needs}
 use lib.Bits.{and-mask}
 use lib.Dec.{eqb}
 use Rattle.painter.proofs.Runs.{within, before-run, after-run}
-use Rattle.painter.proofs.Modules.{square-le, module-lt, row-dark, column-dark, inside-light}
+use Rattle.lists.proofs.Grid.{square-le}
+use Rattle.painter.proofs.Modules.{module-lt, row-dark, column-dark, inside-light}
 use Rattle.painter.proofs.is_light.Statement.{statement}
 use Rattle.painter.proofs.is_light.Tie as tie
 

@@ -4,6 +4,7 @@ use denote.Ref.{now}
 use mathlib.Core.List.{[], _∷_}
 use native.Mathlib.Omega.{arith}
 use Rattle.text.specs.Text.{space, decimal}
+use Rattle.text.proofs.Decimal.{decimal-length}
 use Rattle.text.proofs.Join.{put-more}
 use Rattle.text.proofs.put_number.Statement.{statement}
 use Rattle.text.proofs.put_number.Tie as tie
@@ -11,7 +12,8 @@ use Rattle.text.proofs.put_number.Tie as tie
 put-decimal-requires : tie.Need-put-decimal-requires
 put-decimal-requires c κs =
     let f = c .before .before .before in
-    (omega arith, omega (arith, f .put-byte .ensures .place))
+    let n = f .before .before .before .args .n in
+    (omega arith, omega (arith, f .put-byte .ensures .place, decimal-length n (omega arith)))
 
 returns : tie.Need-returns
 returns c =

@@ -8,8 +8,10 @@ use borrow.Author.Needs.{needs}
 use denote.Ref.{now}
 use lib.ListN.{length, length-append}
 use Rattle.lists.specs.Tab.{tabulate}
+use Rattle.lists.proofs.Grid.{square-le}
 use Rattle.text.specs.Put.{Put}
 use Rattle.text.specs.Text.{lineFeed, decimal}
+use Rattle.text.proofs.Decimal.{decimal-length, decimal-some}
 use Rattle.text.proofs.Join.{put-none, put-more, as-text}
 use Rattle.word.specs.Word.{source}
 use Rattle.turning_lines.proofs.Spaced.{piece, pieces, pieces-next, line-is, line-length, feed-fits, next-fits}
@@ -23,27 +25,24 @@ Inv-loop edge out₀ at end₀ k₀ out end k =
 abbrev μ-loop : tie.MeasureT-loop
 μ-loop edge out₀ at end₀ k₀ out end k = edge * edge - k
 
--- the square of an edge
-square-pos : (e : ℕ) → 0 < e → 0 < e * e
-square-pos e h = mul-le-mul h h
-
-square-le : (e : ℕ) → e ≤ 8 → e * e ≤ 64
-square-le e h = mul-le-mul h h
+-- a square has a place
+one-place : (e : ℕ) → 0 < e → 0 < e * e
+one-place e h = mul-le-mul h h
 
 source-of-requires : tie.Need-source-of-requires Inv-loop μ-loop
-source-of-requires c κs = (omega arith, omega arith, square-pos (c .before .args .edge) (omega arith))
+source-of-requires c κs = (omega arith, omega arith, one-place (c .before .args .edge) (omega arith))
 
 put-decimal-requires : tie.Need-put-decimal-requires Inv-loop μ-loop
 put-decimal-requires c κs =
     let f = c .before .source-of in
     let e = c .before .before .before .args .edge in
-    (omega (arith, f .ensures .1), omega (arith, ap (λ (n : ℕ). length (decimal n)) (f .ensures .0), line-length e (square-pos e (omega arith))))
+    (omega (arith, f .ensures .1), omega (arith, ap (λ (n : ℕ). length (decimal n)) (f .ensures .0), line-length e (one-place e (omega arith))))
 
 loop-holds : tie.Need-loop-holds Inv-loop μ-loop
 unfolding tabulate flatMap
 loop-holds c =
     let p = c .before .before .put-decimal in
-    (omega arith, square-pos (c .before .before .before .before .before .before .args .edge) (omega arith), refl, put-none (p .last .1 .0) (p .result))
+    (omega arith, one-place (c .before .before .before .before .before .before .args .edge) (omega arith), refl, put-none (p .last .1 .0) (p .result))
 
 mul-loop : tie.Need-mul-loop Inv-loop μ-loop
 mul-loop c = let e = c .before .before .before .before .before .before .before .args .edge in omega (arith, square-le e (omega arith))
@@ -67,7 +66,7 @@ module _ (l : tie.At-loop Inv-loop μ-loop) where
   feed : l .loop .end < length (l .loop .out)
   feed =
       let e = asked .args .edge in
-      omega (arith, same-size, feed-fits e (square-pos e (omega arith)) (l .loop .k) (length (now (asked .args .out))) (asked .args .at) (l .before .before .before .put-decimal .result) (l .loop .end) (l .loop .inv .0) (asked .pre .2) begun (l .loop .inv .3 .place) (l .loop .inv .1))
+      omega (arith, same-size, feed-fits e (one-place e (omega arith)) (l .loop .k) (length (now (asked .args .out))) (asked .args .at) (l .before .before .before .put-decimal .result) (l .loop .end) (l .loop .inv .0) (asked .pre .2) begun (l .loop .inv .3 .place) (l .loop .inv .1))
 
 put-number-requires : tie.Need-put-number-requires Inv-loop μ-loop
 put-number-requires c κs =
@@ -75,9 +74,10 @@ put-number-requires c κs =
     let f = c .before .source-of2 in
     let a = l .before .before .before .before .before .before .before in
     let e = a .args .edge in
-    let first = l .before .before .before .put-decimal .result in (
-      omega (arith, f .ensures .1),
-      omega (arith, ap (λ (n : ℕ). length (piece n)) (f .ensures .0), same-size l, next-fits e (square-pos e (omega arith)) (l .loop .k) (length (now (a .args .out))) (a .args .at) first (l .loop .end) (l .loop .inv .0) (a .pre .2) (begun l) (l .loop .inv .3 .place) (omega arith)),
+    let first = l .before .before .before .put-decimal .result in
+    let small : f .result < 100 = omega (arith, f .ensures .1) in (
+      small,
+      omega (arith, decimal-some (f .result) small, decimal-length (f .result) small, ap (λ (n : ℕ). length (piece n)) (f .ensures .0), same-size l, next-fits e (one-place e (omega arith)) (l .loop .k) (length (now (a .args .out))) (a .args .at) first (l .loop .end) (l .loop .inv .0) (a .pre .2) (begun l) (l .loop .inv .3 .place) (omega arith)),
     )
 
 add-k : tie.Need-add-k Inv-loop μ-loop
@@ -114,7 +114,7 @@ returns c =
     let rest = pieces (source (a .edge)) (l .loop .k - 1) in
     let head-fits : a .at + length head ≤ length (now (a .out)) = omega (arith, same-size l, feed l, p .place, first .ensures .place) in
     let both-fit : a .at + length (head ++ rest) ≤ length (now (a .out)) = omega (arith, same-size l, feed l, p .place, first .ensures .place, length-append head rest) in
-    as-text (ap₂ (λ (m n : ℕ). (decimal m ++ pieces (source (a .edge)) (n - 1)) ++ (lineFeed ∷ [])) (f .ensures .0) k ∙ line-is (a .edge) (square-pos (a .edge) (omega arith)))
+    as-text (ap₂ (λ (m n : ℕ). (decimal m ++ pieces (source (a .edge)) (n - 1)) ++ (lineFeed ∷ [])) (f .ensures .0) k ∙ line-is (a .edge) (one-place (a .edge) (omega arith)))
     (put-more (head ++ rest) (now (a .out)) (a .at) both-fit (lineFeed ∷ [])
     (put-more head (now (a .out)) (a .at) head-fits rest (first .ensures) p)
     (c .before .before .put-byte .ensures))

@@ -1,11 +1,12 @@
 -- At row i and column j of the turned square, `b` is the turned word without its i * edge + j low places. Assumes nothing.
 use mathlib.Core.Path.{_≡_, sym, ap, _∙_}
 use Prim.Native.Nat.{ℕ, _+_, _-_, _*_, _/_, _^_, _≤_, _<_}
-use native.Mathlib.Nat.{zero-mul, suc-mul, div-one, div-eq-of-lt, lt-of-lt-of-le, mul-le-mul}
+use native.Mathlib.Nat.{zero-mul, suc-mul, div-one, div-eq-of-lt, lt-of-lt-of-le}
 use native.Mathlib.Numerals.{add-one}
 use native.Mathlib.Omega.{arith}
 use lib.Arith.{digits-lt}
 use lib.Pow.{pow-mono, shr-le}
+use Rattle.lists.proofs.Grid.{square-le}
 use Rattle.word.specs.Word.{bit, source, turn}
 use Rattle.word.proofs.Bits.{word-lower}
 use Rattle.word.proofs.Turn.{turn-lt, bit-turn}
@@ -36,7 +37,7 @@ module _ (e w i j b : ℕ) (some : 1 ≤ j) (so-far : b ≡ turn e w / 2 ^ (i * 
 
   fits : e ≤ 8 → b * 2 + bit (turn e w) place < 2 ^ 64
   fits h =
-      let small : turn e w < 2 ^ 64 = lt-of-lt-of-le (turn-lt e w) (pow-mono (mul-le-mul h h)) in
+      let small : turn e w < 2 ^ 64 = lt-of-lt-of-le (turn-lt e w) (pow-mono (square-le e h)) in
       omega (arith, lower, shr-le (turn e w) place)
 
   -- the bit that the code reads there

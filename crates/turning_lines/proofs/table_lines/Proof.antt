@@ -8,9 +8,9 @@ use lib.ListN.{length, length-append}
 use Rattle.lists.specs.Tab.{tabulate}
 use Rattle.text.specs.Text.{decimalWithin}
 use Rattle.text.proofs.Join.{put-more, put-whole}
-use Rattle.turning_lines.specs.Turning.{spaced, line, printed}
-use Rattle.turning_lines.proofs.tables.Statement.{statement}
-use Rattle.turning_lines.proofs.tables.Tie as tie
+use Rattle.turning_lines.specs.Turning.{spaced, line, turning}
+use Rattle.turning_lines.proofs.table_lines.Statement.{statement}
+use Rattle.turning_lines.proofs.table_lines.Tie as tie
 
 four : length (line 4) ≡ 38
 unfolding line spaced tabulate flatMap decimalWithin
@@ -24,8 +24,8 @@ six : length (line 6) ≡ 98
 unfolding line spaced tabulate flatMap decimalWithin
 six = refl
 
-in-order : (line 4 ++ line 5) ++ line 6 ≡ printed
-unfolding printed flatMap
+in-order : (line 4 ++ line 5) ++ line 6 ≡ turning
+unfolding turning flatMap
 in-order = append-assoc (line 4) (line 5) (line 6) ∙ ap (λ (l : List ℕ). line 4 ++ (line 5 ++ l)) (sym (append-nil (line 6)))
 
 put-line-requires : tie.Need-put-line-requires
@@ -53,8 +53,8 @@ returns c =
     (r .ensures))
     ∙ in-order
 
-pub tables-spec : {M : Type 1} → statement M
-tables-spec =
+pub table-lines-spec : {M : Type 1} → statement M
+table-lines-spec =
     tie.close
     (tie.spec
     (λ c. search needs)  -- slice-aggregate-put-line
