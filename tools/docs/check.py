@@ -8,7 +8,8 @@ check.py --write  first writes the list of definitions in docs/ARCHITECTURE.md a
    or a law of 02 leans on, with its lines. They are found by following imports from the crates in ROOTS.
 2. docs/TRACE.md: each name in `code` in the column of answers stands somewhere in the tree; a must-fail edit is a file.
 3. The tables of turned places: those of the code (crates/word/src/sources.rt) and the squares of docs/TURNING.md, number by
-   number, are what the program `turning` printed from the formula (crates/turning/stdout), and so is the page's example.
+   number, are what the program `turning` printed from the formula (crates/turning/stdout), and so are the places of the
+   page's example.
 """
 import re
 import sys
@@ -84,31 +85,37 @@ def numbers(text):
 
 
 def differing(file, tables, printed):
-    """Where the tables of a file, by edge, are not the printed ones."""
-    if list(tables) != list(printed):
-        yield f"{file}: tables of the edges {list(tables)}, printed are {list(printed)}"
-    for edge in sorted(tables.keys() & printed.keys()):
-        for place, (found, wanted) in enumerate(zip_longest(tables[edge], printed[edge])):
-            if found != wanted:
-                yield f"{file}: edge {edge}, place {place}: {found}, printed is {wanted}"
+    """Where the tables of a file, pairs of an edge and its numbers, are not the printed ones."""
+    if [edge for edge, _ in tables] != [edge for edge, _ in printed]:
+        yield f"{file}: tables of the edges {[edge for edge, _ in tables]}, printed are {[edge for edge, _ in printed]}"
+        return
+    for (edge, table), (_, wanted) in zip(tables, printed):
+        for place, (found, number) in enumerate(zip_longest(table, wanted)):
+            if found != number:
+                yield f"{file}: edge {edge}, place {place}: {found}, printed is {number}"
 
 
 def misturned():
     """Where the code and docs/TURNING.md differ from what `turning` printed: a line for each edge from 4 up."""
-    printed = {edge: numbers(line) for edge, line in enumerate(PRINTED.read_text(encoding="utf8").splitlines(), 4)}
-    code, page = (file.read_text(encoding="utf8") for file in (SOURCES, TURNING))
-    tables = re.findall(r"const EDGE_(\d+): \[u8; \d+\] = \[([^\]]*)\];", code)
-    yield from differing("crates/word/src/sources.rt", {int(edge): numbers(table) for edge, table in tables}, printed)
+    text, code, page = (file.read_text(encoding="utf8") for file in (PRINTED, SOURCES, TURNING))
+    printed = [(edge, numbers(line)) for edge, line in enumerate(text.splitlines(), 4)]
+    if "".join(" ".join(map(str, table)) + "\n" for _, table in printed) != text:
+        yield "crates/turning/stdout: not lines of numbers with one space between"
+    code = re.sub(r"//.*", "", code)
+    tables = re.findall(r"const EDGE_(\d+): \[u8; \d+\] = \[([\d,\s]*)\];", code)
+    if len(tables) != code.count("const"):
+        yield "crates/word/src/sources.rt: a constant that is no table of plain numbers"
+    yield from differing("crates/word/src/sources.rt", [(int(edge), numbers(table)) for edge, table in tables], printed)
     squares = re.findall(r"### Edge (\d+)\n\n```\n(.*?)```", page, re.S)
-    yield from differing("docs/TURNING.md", {int(edge): numbers(square) for edge, square in squares}, printed)
+    yield from differing("docs/TURNING.md", [(int(edge), numbers(square)) for edge, square in squares], printed)
     for edge, square in squares:
         if any(len(numbers(row)) != int(edge) for row in square.splitlines()):
             yield f"docs/TURNING.md: edge {edge} is no square"
-    example = [(place, printed[4][place], 0x231B >> printed[4][place] & 1) for place in range(16)]
-    if [tuple(map(int, row)) for row in re.findall(r"^\| (\d+) \| (\d+) \| ([01]) \|$", page, re.M)] != example:
-        yield "docs/TURNING.md: the example is not 231B turned by the printed table"
-    if sum(bit << place for place, _, bit in example) != 0x7D01:
-        yield "crates/turning/stdout: 231B turned by it is not 7D01"
+    places = [numbers(row) for row in re.findall(r"^\| \d+ \| \d+ \| [01] \|$", page, re.M)]
+    if places != [[place, source, 0x231B >> source & 1] for place, source in enumerate(printed[0][1] if printed else [])]:
+        yield "docs/TURNING.md: the example's places are not 231B turned by the printed table"
+    if sum(bit << place for place, _, bit in places) != 0x7D01:
+        yield "docs/TURNING.md: the example's places are not the bits of 7D01"
 
 
 def main():
