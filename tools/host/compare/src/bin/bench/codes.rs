@@ -48,7 +48,7 @@ fn turns(words: &[u64], edge: u8) -> Times {
     )
 }
 
-/// The search and a turn.
+/// Turns at four edges, and the search.
 pub fn words() -> Vec<(String, Times)> {
     let clean = FAMILY.codes().to_vec();
     let mut numbers = Numbers::from(SEED + 6_100);
