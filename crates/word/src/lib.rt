@@ -5,10 +5,14 @@ use sources::EDGE_4;
 use sources::EDGE_5;
 use sources::EDGE_6;
 ghost use mathlib.Core.Path.{_≡_};
-ghost use mathlib.Core.Bool.{false};
+ghost use mathlib.Core.Bool.{true, false};
 ghost use Prim.Native.Nat.{_+_, _*_, _^_, _<_, _≤_};
+ghost use lib.Dec.{ltb};
+ghost use lib.ListN.{length};
+ghost use Rattle.lists.specs.Tab.{all};
 ghost use Rattle.word.specs.Word.{bit, source, turn, differing};
-ghost use Rattle.word.specs.Sources.{hasTable, sources};
+ghost use Rattle.word.specs.Sources.{hasTable};
+ghost use Rattle.word.specs.Gathered.{gathered};
 
 // The bit of `bits` at place `k`.
 fn bit_at(bits: u64, k: u64) -> u64
@@ -34,15 +38,14 @@ pub fn source_place(edge: u64, i: u64, j: u64) -> u64
     j * edge + (edge - 1 - i)
 }
 
-// The square turned once by the edge's table, which names for each place the one that its bit comes from.
-fn by_table(bits: u64, edge: u8, table: &[u8]) -> u64
-    requires { ⌜ (edge ≤ 8) × (now table ≡ sources edge) ⌝ }
-    ensures { λ r. ⌜ r ≡ turn edge bits ⌝ }
+// The word that has at each place the bit of `bits` from the place that the table names there.
+fn by_table(bits: u64, table: &[u8]) -> u64
+    requires { ⌜ (length (now table) ≤ 64) × (all (λ place. ltb place 64) (now table) ≡ true) ⌝ }
+    ensures { λ r. ⌜ r ≡ gathered (now (table .entry)) bits ⌝ }
 {
-    let places = (edge as usize) * (edge as usize);
     let mut b: u64 = 0;
     let mut k = 0;
-    while k < places {
+    while k < table.len() {
         b = with_bit(b, k as u64, bit_at(bits, table[k] as u64));
         k += 1;
     }
@@ -74,9 +77,9 @@ pub fn rotate_bits(bits: u64, edge: u8) -> u64
     ensures { λ r. ⌜ r ≡ turn edge bits ⌝ }
 {
     match edge {
-        4 => by_table(bits, 4, &EDGE_4),
-        5 => by_table(bits, 5, &EDGE_5),
-        6 => by_table(bits, 6, &EDGE_6),
+        4 => by_table(bits, &EDGE_4),
+        5 => by_table(bits, &EDGE_5),
+        6 => by_table(bits, &EDGE_6),
         _ => by_formula(bits, edge),
     }
 }
