@@ -3,7 +3,8 @@
  *
  * What each function answers
  *   0 where the call is accepted, and else the number of a refusal. A function tests its refusals in the order in which its
- *   comment names them and answers the first that holds. A refused call leaves every buffer as it was, the worklist too.
+ *   comment names them and answers the first that holds. A refused call leaves every buffer as it was, the worklist too; the one
+ *   exception is the count that muosleap_best_tag gives beside 13.
  *
  * What the caller owes
  *   - Every pointer is aligned for its type and not null, also where its count is 0.
@@ -78,9 +79,12 @@ uint32_t muosleap_rotate_bits(uint64_t bits, uint8_t edge, uint64_t *word);
  * id: the code's position from 0. turn: the turn. differing: in how many bits the code differs from the word turned so often, the
  * fewest that a code does; below the match threshold, so 63 at most. Bits above the square count too, at turn 0 alone: a turned word
  * has none.
+ * compared: how many codes were compared. A code that differs in no bit ends the search, so in a table of n codes it is turn × n +
+ * id + 1 where differing is 0, and (turn + 1) × n where it is not. It is written beside 0 and beside 13, where it is 4 × n; beside 13
+ * nothing else is written, and beside 6 nothing at all.
  */
 uint32_t muosleap_best_tag(uint64_t bits, uint8_t hamming_distance, const uint64_t *codes, size_t codes_count, uint8_t edge,
-                           size_t *id, uint8_t *turn, uint8_t *differing);
+                           size_t *id, uint8_t *turn, uint8_t *differing, size_t *compared);
 
 /*
  * Whether a table can be read one way only: with the match threshold t, each code has at least t ones and t zeros in its square,

@@ -8,14 +8,15 @@ use Rattle.search.specs.Search.{Seen}
 use Rattle.reader.specs.Reading.{Tag}
 use Rattle.points.specs.Numbers.{numbersOf}
 use Rattle.listing.specs.Listing.{Listing}
-use Rattle.outputs.specs.Outputs.{Output, Written}
+use Rattle.outputs.specs.Outputs.{Output, Written, whole}
 
--- a code's search: the code's number, the turn and the number of differing modules
-pub record FindsTag (found : Outcome Seen) (r : ℕ) (id turn differing : Output ℕ) : Type 0 where
+-- a code's search: the code's number, the turn and the number of differing modules; and the count of codes compared, which stands beside 13 too
+pub record FindsTag (found : Outcome Seen) (count : Outcome ℕ) (r : ℕ) (id turn differing compared : Output ℕ) : Type 0 where
   pub answered : r ≡ number found
   pub id-written : Written found (λ (s : Seen). s .id) id
   pub turn-written : Written found (λ (s : Seen). s .turn) turn
   pub differing-written : Written found (λ (s : Seen). s .differing) differing
+  pub compared-written : Written count whole compared
 
 -- a quad's reading: the tag's number, its turn, its number of differing modules and its corners
 pub record ReadsTag (read : Outcome Tag) (r : ℕ) (id turn differing : Output ℕ) (corners : Output (List Float)) : Type 0 where

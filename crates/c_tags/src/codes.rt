@@ -6,7 +6,7 @@ use search::Found;
 use tables::Family;
 ghost use mathlib.Core.Path.{_≡_};
 ghost use Rattle.refusals.specs.Outcome.{number};
-ghost use Rattle.muosleap.specs.Codes.{turned, bestTag};
+ghost use Rattle.muosleap.specs.Codes.{turned, bestTag, codesCompared};
 ghost use Rattle.muosleap.specs.Likeness.{checkLikeness};
 ghost use Rattle.muosleap.specs.BitCode.{bitCode};
 ghost use Rattle.outputs.specs.Outputs.{Gives, whole, held};
@@ -32,21 +32,29 @@ pub fn best_tag(
     id: &mut usize,
     turn: &mut u8,
     differing: &mut u8,
+    compared: &mut usize,
 ) -> u32
-    ensures { λ r. ⌜ FindsTag (bestTag bits «hamming_distance» (now (codes .entry)) edge) r (held id) (held turn) (held differing) ⌝ }
+    ensures { λ r. ⌜ FindsTag (bestTag bits «hamming_distance» (now (codes .entry)) edge) (codesCompared bits «hamming_distance» (now (codes .entry)) edge)
+        r (held id) (held turn) (held differing) (held compared) ⌝ }
 {
     match muosleap::detector::best_tag(bits, hamming_distance, codes, edge) {
         Found::Tag {
             id: i,
             turn: t,
             differing: d,
+            compared: n,
         } => {
             *id = i;
             *turn = t;
             *differing = d;
+            *compared = n;
             0
         }
-        Found::Refused(n) => n as u32,
+        Found::Unread { compared: n } => {
+            *compared = n;
+            13
+        }
+        Found::BadTable => 6,
     }
 }
 

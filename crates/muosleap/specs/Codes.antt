@@ -6,6 +6,7 @@ use Rattle.refusals.specs.Outcome.{Outcome, accepted, refused}
 use Rattle.word.specs.Word.{turn}
 use Rattle.tables.specs.Table.{badEdge, badCodes}
 use Rattle.search.specs.Search.{Seen, search, searchFrom}
+use Rattle.search.specs.Compared.{compared, comparedFrom}
 use Rattle.muosleap.specs.declared.detector.Turned.{Turned}
 use Rattle.muosleap.specs.declared.detector.Turned.the-variants.{Word, Refused}
 
@@ -23,3 +24,8 @@ turned bits edge = cond (badEdge edge) (refused 6) (accepted (turn edge bits))
 unfoldable pub bestTag : ℕ → ℕ → List ℕ → ℕ → Outcome Seen
 unfolding badCodes searchFrom
 bestTag bits threshold codes edge = cond (badCodes edge threshold codes) (refused 6) (search bits threshold codes edge)
+
+-- 02's "count of codes compared" beside its answer: a tag has one, and so has 13; where the table is refused, no code was compared
+unfoldable pub codesCompared : ℕ → ℕ → List ℕ → ℕ → Outcome ℕ
+unfolding badCodes comparedFrom
+codesCompared bits threshold codes edge = cond (badCodes edge threshold codes) (refused 6) (accepted (compared bits threshold codes edge))

@@ -8,12 +8,12 @@ use tables::Family;
 use tag_families::codes::CODES;
 ghost use mathlib.Core.Path.{_≡_};
 ghost use Rattle.levels.specs.Bits.{paperBits};
-ghost use Rattle.search.specs.Answer.{paperFound};
+ghost use Rattle.search.specs.Answer.{paperFound, paperCount};
 ghost use Rattle.reader.specs.Answer.{paperReading};
 ghost use Rattle.muosleap.specs.Quad.{decodeQuad, decodeQuadIn};
 ghost use Rattle.muosleap.specs.BitCode.{bitCode};
 ghost use Rattle.muosleap.specs.Likeness.{paperLikeness, checkLikeness};
-ghost use Rattle.muosleap.specs.Codes.{paperTurned, turned, bestTag};
+ghost use Rattle.muosleap.specs.Codes.{paperTurned, turned, bestTag, codesCompared};
 
 pub enum Turned {
     Word(u64),
@@ -35,13 +35,13 @@ pub fn rotate_bits(bits: u64, edge: u8) -> Turned
     Turned::Word(word::rotate_bits(bits, edge))
 }
 
-// The code that a word shows, the turn at which it shows it, and in how many bits they differ. Refusal 6 for the table, of which
-// all is lent but the border, and 13 where no code is near in four turns.
+// The code that a word shows, the turn at which it shows it, and in how many bits they differ; and how many codes were compared. Refusal 6
+// for the table, of which all is lent but the border, and 13, with the count, where no code is near in four turns.
 pub fn best_tag(bits: u64, hamming_distance: u8, codes: &[u64], edge: u8) -> Found
-    ensures { λ r. ⌜ paperFound r ≡ bestTag bits «hamming_distance» (now (codes .entry)) edge ⌝ }
+    ensures { λ r. ⌜ (paperFound r ≡ bestTag bits «hamming_distance» (now (codes .entry)) edge) × (paperCount r ≡ codesCompared bits «hamming_distance» (now (codes .entry)) edge) ⌝ }
 {
     if tables::bad_codes(edge, hamming_distance, codes) {
-        return Found::Refused(6);
+        return Found::BadTable;
     }
     search::best_tag(bits, hamming_distance, codes, edge)
 }

@@ -2,7 +2,7 @@
 use crate::structs;
 ghost use mathlib.Core.Path.{_≡_};
 ghost use Rattle.refusals.specs.Outcome.{number};
-ghost use Rattle.muosleap.specs.Codes.{turned, bestTag};
+ghost use Rattle.muosleap.specs.Codes.{turned, bestTag, codesCompared};
 ghost use Rattle.muosleap.specs.Likeness.{checkLikeness};
 ghost use Rattle.muosleap.specs.BitCode.{bitCode};
 ghost use Rattle.outputs.specs.Outputs.{Gives, whole, held};
@@ -25,10 +25,21 @@ pub extern "C" fn muosleap_best_tag(
     id: &mut usize,
     turn: &mut u8,
     differing: &mut u8,
+    compared: &mut usize,
 ) -> u32
-    ensures { λ r. ⌜ FindsTag (bestTag bits «hamming_distance» (now (codes .entry)) edge) r (held id) (held turn) (held differing) ⌝ }
+    ensures { λ r. ⌜ FindsTag (bestTag bits «hamming_distance» (now (codes .entry)) edge) (codesCompared bits «hamming_distance» (now (codes .entry)) edge)
+        r (held id) (held turn) (held differing) (held compared) ⌝ }
 {
-    c_tags::codes::best_tag(bits, hamming_distance, codes, edge, id, turn, differing)
+    c_tags::codes::best_tag(
+        bits,
+        hamming_distance,
+        codes,
+        edge,
+        id,
+        turn,
+        differing,
+        compared,
+    )
 }
 
 #[no_mangle]

@@ -70,6 +70,7 @@ fn put_answer(bits: u64, out: &mut [u8], at: usize) -> usize
         id,
         turn,
         differing: _,
+        compared: _,
     } = search_t16h5(bits)
     else {
         return put(b" none\n", out, at);

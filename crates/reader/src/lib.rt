@@ -76,7 +76,7 @@ fn sample_levels(plane: &[u8], frame: Frame, family: Family, axes: Axes, levels:
 
 // The tag that a word shows, with its corners.
 fn tag_of(bits: u64, family: Family, codes: &[u64], quad: Quad) -> Reading
-    requires { ⌜ (0 < family .edge) × (family .edge ≤ 8) ⌝ }
+    requires { ⌜ (0 < family .edge) × (family .edge ≤ 8) × (0 < family .«hamming_distance») × (family .«hamming_distance» ≤ 64) ⌝ }
     ensures { λ r. ⌜ paperReading r ≡ tagOf family (now (codes .entry)) quad (accepted bits) ⌝ }
 {
     match search::best_tag(bits, family.hamming_distance, codes, family.edge) {
@@ -84,19 +84,21 @@ fn tag_of(bits: u64, family: Family, codes: &[u64], quad: Quad) -> Reading
             id,
             turn,
             differing,
+            compared: _,
         } => Reading::Tag {
             id,
             turn,
             differing,
             corners: points::answer_corners(quad, turn),
         },
-        Found::Refused(n) => Reading::Refused(n),
+        Found::Unread { compared: _ } => Reading::Refused(13),
+        Found::BadTable => Reading::Refused(6),
     }
 }
 
 // The tag that the levels of the samples show: band 10, three unsure allowed.
 fn decode_levels(levels: &[u8], family: Family, codes: &[u64], quad: Quad) -> Reading
-    requires { ⌜ (0 < length (now levels)) × (length (now levels) ≤ 64) × (0 < family .edge) × (family .edge ≤ 8) ⌝ }
+    requires { ⌜ (0 < length (now levels)) × (length (now levels) ≤ 64) × (0 < family .edge) × (family .edge ≤ 8) × (0 < family .«hamming_distance») × (family .«hamming_distance» ≤ 64) ⌝ }
     ensures { λ r. ⌜ paperReading r ≡ tagOf family (now (codes .entry)) quad (codeOf (now (levels .entry)) 10 3) ⌝ }
 {
     match levels::bit_code(levels, 10, 3) {

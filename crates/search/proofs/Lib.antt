@@ -1,2 +1,4 @@
 pub mod Closest
+pub mod Next
 pub mod Search
+pub mod Compared

@@ -1,2 +1,4 @@
 pub mod Search
+pub mod Compared
 pub mod Answer
+pub mod Next

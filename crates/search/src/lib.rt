@@ -1,8 +1,15 @@
 // The search for the code that a word shows: over four turns of the word and all codes of a table.
 ghost use mathlib.Core.Path.{_≡_};
 ghost use Prim.Native.Nat.{_<_, _≤_};
-ghost use Rattle.search.specs.Search.{fewest, firstAt, search};
-ghost use Rattle.search.specs.Answer.{paperFound};
+ghost use lib.Dec.{leb};
+ghost use lib.ListN.{length};
+ghost use Rattle.lists.specs.Tab.{all};
+ghost use Rattle.word.specs.Word.{differing};
+ghost use Rattle.search.specs.Search.{search};
+ghost use Rattle.search.specs.Next.{Next};
+ghost use Rattle.search.specs.Compared.{compared};
+ghost use Rattle.search.specs.Answer.{paperFound, paperCount};
+ghost use Rattle.refusals.specs.Outcome.{accepted};
 
 // The position of a code, and the number of bits in which it differs from a word.
 pub struct Best {
@@ -11,39 +18,32 @@ pub struct Best {
 }
 
 pub enum Found {
-    Tag { id: usize, turn: u8, differing: u8 },
-    Refused(u8),
+    Tag {
+        id: usize,
+        turn: u8,
+        differing: u8,
+        compared: usize,
+    },
+    Unread {
+        compared: usize,
+    },
+    BadTable,
 }
 
-// The fewest bits in which one of the codes differs from a word, or 65 for no code. Only the number is kept, so that the codes
-// are compared in vector registers.
-fn fewest_bits(bits: u64, codes: &[u64]) -> u8
-    ensures { λ r. ⌜ r ≡ fewest bits (now (codes .entry)) ⌝ }
+// Whether none of the codes differs from a word in fewer bits than `bound`. What is missing to the bound wraps around to a number with
+// the highest bit, and all bits are gathered into one number: so the codes are compared in vector registers.
+fn none_nearer(bits: u64, bound: u8, codes: &[u64]) -> bool
+    requires { ⌜ bound ≤ 64 ⌝ }
+    ensures { λ r. ⌜ r ≡ all (λ code. leb bound (differing bits code)) (now (codes .entry)) ⌝ }
 {
-    let mut least: u8 = 65;
+    let mut gathered: u64 = 0;
     let mut i = 0;
     while i < codes.len() {
-        let d = word::differing_bits(bits, codes[i]) as u8;
-        if d < least {
-            least = d;
-        }
+        let d = word::differing_bits(bits, codes[i]) as u64;
+        gathered = gathered | std::num::wrapping_sub_u64(d, bound as u64);
         i += 1;
     }
-    least
-}
-
-// The first position whose code differs from a word in `differing` bits.
-fn first_with(bits: u64, differing: u8, codes: &[u64]) -> usize
-    ensures { λ r. ⌜ r ≡ firstAt bits differing (now (codes .entry)) ⌝ }
-{
-    let mut i = 0;
-    while i < codes.len() {
-        if word::differing_bits(bits, codes[i]) as u8 == differing {
-            return i;
-        }
-        i += 1;
-    }
-    i
+    gathered < (1 << 63)
 }
 
 // The end of the block of codes that begins at `from`.
@@ -51,51 +51,80 @@ fn block_end(from: usize, len: usize) -> usize
     requires { ⌜ from < len ⌝ }
     ensures { λ r. ⌜ (from < r) × (r ≤ len) ⌝ }
 {
-    if len - from < 32 {
+    if len - from < 16 {
         return len;
     }
-    from + 32
+    from + 16
 }
 
-// The fewest differing bits over the table, and the first position that has them: the first block of codes that has them is
-// kept, and only there are codes looked at one by one.
-fn nearest(bits: u64, codes: &[u64]) -> Best
-    ensures { λ r. ⌜ (r .differing ≡ fewest bits (now (codes .entry))) × (r .id ≡ firstAt bits (fewest bits (now (codes .entry))) (now (codes .entry))) ⌝ }
+// The first position whose code differs from a word in fewer bits than `bound`, or the number of codes.
+fn first_nearer(bits: u64, bound: u8, codes: &[u64]) -> usize
+    ensures { λ r. ⌜ Next bits bound (now (codes .entry)) 0 r ⌝ }
 {
-    let mut block = 0;
-    let mut differing: u8 = 65;
     let mut i = 0;
     while i < codes.len() {
+        if (word::differing_bits(bits, codes[i]) as u8) < bound {
+            return i;
+        }
+        i += 1;
+    }
+    i
+}
+
+// The same from a position on. Blocks of codes that hold no such code are passed over whole.
+fn next_nearer(bits: u64, bound: u8, codes: &[u64], from: usize) -> usize
+    requires { ⌜ (bound ≤ 64) × (from ≤ length (now codes)) ⌝ }
+    ensures { λ r. ⌜ Next bits bound (now (codes .entry)) from r ⌝ }
+{
+    let mut i = from;
+    while i < codes.len() {
         let end = block_end(i, codes.len());
-        let d = fewest_bits(bits, &codes[i..end]);
-        if d < differing {
-            block = i;
-            differing = d;
+        if !none_nearer(bits, bound, &codes[i..end]) {
+            return i + first_nearer(bits, bound, &codes[i..]);
         }
         i = end;
     }
-    let id = block + first_with(bits, differing, &codes[block..]);
-    Best { id, differing }
+    i
 }
 
-// The first of the four turns whose fewest differing bits are below the match threshold answers, and says how many they are.
+// The first of the four turns that has a code nearer than the match threshold answers, with the nearest: each code of the inner loop is
+// nearer than those before it. Most words are clean, and a code that differs in no bit leaves both the turn and the table.
 pub fn best_tag(bits: u64, hamming_distance: u8, codes: &[u64], edge: u8) -> Found
-    requires { ⌜ (0 < edge) × (edge ≤ 8) ⌝ }
-    ensures { λ r. ⌜ paperFound r ≡ search bits «hamming_distance» (now (codes .entry)) edge ⌝ }
+    requires { ⌜ (0 < edge) × (edge ≤ 8) × (0 < «hamming_distance») × («hamming_distance» ≤ 64) ⌝ }
+    ensures { λ r. ⌜ (paperFound r ≡ search bits «hamming_distance» (now (codes .entry)) edge) × (paperCount r ≡ accepted (compared bits «hamming_distance» (now (codes .entry)) edge)) ⌝ }
 {
+    let mut best = Best {
+        id: 0,
+        differing: hamming_distance,
+    };
     let mut seen = bits;
     let mut turn: u8 = 0;
-    while turn < 4 {
-        let best = nearest(seen, codes);
+    let mut compared = 0;
+    'turns: while turn < 4 {
+        let mut id = next_nearer(seen, hamming_distance, codes, 0);
+        while id < codes.len() {
+            let differing = word::differing_bits(seen, codes[id]) as u8;
+            best = Best { id, differing };
+            if differing == 0 {
+                compared += id + 1;
+                break 'turns;
+            }
+            id = next_nearer(seen, differing, codes, id + 1);
+        }
+        compared += codes.len();
         if best.differing < hamming_distance {
-            return Found::Tag {
-                id: best.id,
-                turn,
-                differing: best.differing,
-            };
+            break 'turns;
         }
         seen = word::rotate_bits(seen, edge);
         turn += 1;
     }
-    Found::Refused(13)
+    if turn == 4 {
+        return Found::Unread { compared };
+    }
+    Found::Tag {
+        id: best.id,
+        turn,
+        differing: best.differing,
+        compared,
+    }
 }

@@ -1,6 +1,6 @@
 // Replays what the original's turn, search, levels, corner test and quad reader answered, its families, lists of quads, paintings of
-// tags and sheets, and the limits of documents 01 and 02, against the public entries on tags; what has a picture again with filler
-// between its lines. tools/oracle/README.md says how the files were made.
+// tags and sheets, the limits of documents 01 and 02, and searches with their count of codes compared, against the public entries on
+// tags; what has a picture again with filler between its lines. tools/oracle/README.md says how the files were made.
 mod bit_codes;
 mod padded;
 mod paintings;
@@ -65,6 +65,7 @@ fn replay_words() {
     replay_file(WORDS, b"lent");
     replay_file(WORDS, b"limits");
     replay_file(WORDS, b"likeness");
+    replay_file(WORDS, b"compared");
 }
 
 fn replay_families() {

@@ -12,6 +12,7 @@ use vectors::answers::Answer;
 use vectors::next_number;
 use vectors::rest;
 use vectors::u8_at;
+use vectors::u16_at;
 use vectors::u32_at;
 use vectors::u64_at;
 
@@ -28,16 +29,43 @@ fn turn_alike(frame: &[u8]) -> bool {
     }
 }
 
-// The answer of a search. It has no corners.
-fn found(bits: u64, table: Family, codes: &[u64]) -> Answer {
+// The answer of a search, which has no corners, and how many codes were compared, 0 where there is no count.
+struct Counted {
+    answer: Answer,
+    compared: u64,
+}
+
+fn searched(bits: u64, table: Family, codes: &[u64]) -> Counted {
     match best_tag(bits, table.hamming_distance, codes, table.edge) {
         Found::Tag {
             id,
             turn,
             differing,
-        } => answers::found(id, turn, differing, answers::quad_of(0.0)),
-        Found::Refused(number) => answers::refused(number),
+            compared,
+        } => Counted {
+            answer: answers::found(id, turn, differing, answers::quad_of(0.0)),
+            compared: compared as u64,
+        },
+        Found::Unread { compared } => Counted {
+            answer: answers::refused(13),
+            compared: compared as u64,
+        },
+        Found::BadTable => Counted {
+            answer: answers::refused(6),
+            compared: 0,
+        },
     }
+}
+
+// Whether a search's answer is that of the bytes.
+fn found_alike(s: &[u8], searched: Counted) -> bool {
+    let answer = searched.answer;
+    answers::same(answer, answers::answer_at(s))
+}
+
+// The same with its count, which is given too.
+fn counted_alike(s: &[u8], count: u64, searched: Counted) -> bool {
+    (searched.compared == count) & found_alike(s, searched)
 }
 
 // A word, and the generator's last number.
@@ -94,13 +122,19 @@ fn word_of(rule: u8, k: u64, last: u64, edge: u8, codes: &[u64]) -> Drawn {
     }
 }
 
-fn taken(digest: u64, answer: Answer) -> u64 {
+// The digest with a search's answer and, where they are asked for, its codes compared.
+fn taken(digest: u64, searched: Counted, counted: bool) -> u64 {
+    let answer = searched.answer;
     let a = vectors::digest_u8(digest, answer.refusal);
     let b = vectors::digest_u8(vectors::digest_u16(a, answer.id), answer.turn);
-    vectors::digest_u8(b, answer.differing)
+    let c = vectors::digest_u8(b, answer.differing);
+    if counted {
+        return vectors::digest_u16(c, searched.compared);
+    }
+    c
 }
 
-fn digest_alike(frame: &[u8], table: Family, codes: &[u64]) -> bool {
+fn digest_alike(frame: &[u8], table: Family, codes: &[u64], counted: bool) -> bool {
     let rule = u8_at(frame, 1);
     let count = u32_at(frame, 10);
     let mut last = u64_at(frame, 2);
@@ -109,7 +143,7 @@ fn digest_alike(frame: &[u8], table: Family, codes: &[u64]) -> bool {
     while k < count {
         let word = word_of(rule, k as u64, last, table.edge, codes);
         last = word.last;
-        digest = taken(digest, found(word.bits, table, codes));
+        digest = taken(digest, searched(word.bits, table, codes), counted);
         k += 1;
     }
     digest == u64_at(frame, 14)
@@ -167,13 +201,16 @@ pub fn read_codes(s: &[u8], codes: &mut [u64]) {
 
 fn table_alike(kind: u8, frame: &[u8], table: Family, codes: &[u64]) -> bool {
     match kind {
-        1 => answers::same(
-            found(u64_at(frame, 1), table, codes),
-            answers::answer_at(rest(frame, 9)),
-        ),
-        2 => digest_alike(frame, table, codes),
+        1 => found_alike(rest(frame, 9), searched(u64_at(frame, 1), table, codes)),
+        2 => digest_alike(frame, table, codes, false),
         4 => family_alike(frame, table, codes),
         5 => likeness_alike(frame, table.edge, codes),
+        6 => counted_alike(
+            rest(frame, 11),
+            u16_at(frame, 9) as u64,
+            searched(u64_at(frame, 1), table, codes),
+        ),
+        7 => digest_alike(frame, table, codes, true),
         _ => false,
     }
 }

@@ -45,8 +45,12 @@ crossing! {
     /// The word turned once. Refusal 6.
     fn rotate_bits(bits: u64, edge: u8, word: &mut u64);
 
-    /// The code that a word shows, at which turn, and in how many bits it differs. Refusals 6, 13.
-    fn best_tag(bits: u64, hamming_distance: u8, codes: &[u64], edge: u8, id: &mut usize, turn: &mut u8, differing: &mut u8);
+    /// The code that a word shows, at which turn, in how many bits it differs, and how many codes were compared. Refusals 6, 13; the
+    /// count is written beside 13 too, and nothing else then.
+    fn best_tag(
+        bits: u64, hamming_distance: u8, codes: &[u64], edge: u8, id: &mut usize, turn: &mut u8, differing: &mut u8,
+        compared: &mut usize
+    );
 
     /// Whether a table can be read one way only. Refusals 6, 7.
     fn check_likeness(edge: u8, border: u8, hamming_distance: u8, codes: &[u64]);

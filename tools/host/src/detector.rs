@@ -26,6 +26,7 @@
 
 use crate::refusal::accepted;
 use crate::{Family, Picture, Quad, Refusal, Table, c};
+use std::{error::Error, fmt};
 
 /// What a word shows.
 #[derive(Clone, Copy, PartialEq, Eq, Debug)]
@@ -38,7 +39,52 @@ pub struct Found {
     /// In how many bits the code differs from the word turned so often, the fewest that a code of the table does: below the match
     /// threshold, so 63 at most. Bits above the square count too, at turn 0 alone: a turned word has none.
     pub differing: u8,
+    /// How many codes the word was compared with. The search ends at a code that differs in no bit, so in a table of n codes it is
+    /// turn × n + id + 1 where `differing` is 0; where it is not, each turn went through the table, and it is (turn + 1) × n. The four
+    /// turns of one word may have different counts.
+    pub compared: usize,
 }
+
+/// Why a word shows no code: one of two refusals, and what is known beside it.
+///
+/// ```
+/// use muosleap::{Family, NotFound, Refusal, Table};
+///
+/// // T16H5 has 30 codes: four turns of them were compared.
+/// let table = Family::T16H5.table();
+/// assert_eq!(table.best_tag(0x231A), Err(NotFound::NoCode { compared: 120 }));
+///
+/// let none = Table { codes: &[], ..table };
+/// assert_eq!(none.best_tag(0x231A), Err(NotFound::BadTable));
+/// assert_eq!(Refusal::from(NotFound::BadTable), Refusal::BadTable);
+/// ```
+#[derive(Clone, Copy, PartialEq, Eq, Debug)]
+pub enum NotFound {
+    /// [`Refusal::NoCode`], 13: no code is near in four turns.
+    NoCode {
+        /// How many codes the word was compared with, four times the table's length.
+        compared: usize,
+    },
+    /// [`Refusal::BadTable`], 6: no code was compared.
+    BadTable,
+}
+
+impl From<NotFound> for Refusal {
+    fn from(not_found: NotFound) -> Refusal {
+        match not_found {
+            NotFound::NoCode { .. } => Refusal::NoCode,
+            NotFound::BadTable => Refusal::BadTable,
+        }
+    }
+}
+
+impl fmt::Display for NotFound {
+    fn fmt(&self, f: &mut fmt::Formatter<'_>) -> fmt::Result {
+        Refusal::from(*self).fmt(f)
+    }
+}
+
+impl Error for NotFound {}
 
 /// A tag that was read.
 #[derive(Clone, Copy, PartialEq, Debug)]
@@ -87,29 +133,35 @@ pub fn bit_code(levels: &[u8], band: u8, allowed: u32) -> Result<u64, Refusal> {
 
 impl Table<'_> {
     /// The code that a word shows: turns 0 to 3, in each the nearest code, the first turn that has one nearer than the match
-    /// threshold. The border plays no part. Refusals 6, 13.
+    /// threshold. A code that differs in no bit ends the search at once; the answer is that of a search through all codes. The
+    /// border plays no part. Refusals 6, 13.
     ///
     /// ```
-    /// use muosleap::{Family, Refusal};
+    /// use muosleap::{Family, NotFound};
     ///
     /// let table = Family::T16H5.table();
-    /// let read = |word: u64| table.best_tag(word).map(|found| (found.id, found.turn));
-    /// assert_eq!(read(0x231B), Ok((0, 0)));
-    /// assert_eq!(read(0x7D01), Ok((0, 3)));
-    /// assert_eq!(read(0x231A), Err(Refusal::NoCode));
+    /// let read = |word: u64| table.best_tag(word).map(|found| (found.id, found.turn, found.compared));
+    /// assert_eq!(read(0x231B), Ok((0, 0, 1)));
+    /// assert_eq!(read(0x7D01), Ok((0, 3, 91)));
+    /// assert_eq!(read(0x231A), Err(NotFound::NoCode { compared: 120 }));
     ///
-    /// // A match threshold of 3 takes up to two misprinted modules.
+    /// // A match threshold of 3 takes up to two misprinted modules. To tell them, a turn goes through all 587 codes.
     /// let table = Family::T36H11.table();
-    /// let differing = |word: u64| table.best_tag(word).map(|found| found.differing);
-    /// assert_eq!(differing(table.codes[7]), Ok(0));
-    /// assert_eq!(differing(table.codes[7] ^ 1 << 20), Ok(1));
-    /// assert_eq!(differing(table.codes[7] ^ 1 << 20 ^ 1 << 35), Ok(2));
-    /// assert_eq!(differing(table.codes[7] ^ 1 << 20 ^ 1 << 35 ^ 1), Err(Refusal::NoCode));
+    /// let differing = |word: u64| table.best_tag(word).map(|found| (found.differing, found.compared));
+    /// assert_eq!(differing(table.codes[7]), Ok((0, 8)));
+    /// assert_eq!(differing(table.codes[7] ^ 1 << 20), Ok((1, 587)));
+    /// assert_eq!(differing(table.codes[7] ^ 1 << 20 ^ 1 << 35), Ok((2, 587)));
+    /// assert_eq!(differing(table.codes[7] ^ 1 << 20 ^ 1 << 35 ^ 1), Err(NotFound::NoCode { compared: 2_348 }));
     /// ```
-    pub fn best_tag(&self, bits: u64) -> Result<Found, Refusal> {
-        let (mut id, mut turn, mut differing) = (0, 0, 0);
-        accepted(c::best_tag(bits, self.hamming_distance, self.codes, self.edge, &mut id, &mut turn, &mut differing))?;
-        Ok(Found { id, turn, differing })
+    pub fn best_tag(&self, bits: u64) -> Result<Found, NotFound> {
+        let (mut id, mut turn, mut differing, mut compared) = (0, 0, 0, 0);
+        let Table { edge, hamming_distance, codes, .. } = *self;
+        match accepted(c::best_tag(bits, hamming_distance, codes, edge, &mut id, &mut turn, &mut differing, &mut compared)) {
+            Ok(()) => Ok(Found { id, turn, differing, compared }),
+            Err(Refusal::NoCode) => Err(NotFound::NoCode { compared }),
+            Err(Refusal::BadTable) => Err(NotFound::BadTable),
+            Err(other) => unreachable!("{other}"),
+        }
     }
 
     /// Whether every word that is near a code is near one code only, and in one turn. Check a list of your own once, before its

@@ -43,7 +43,7 @@ mod points;
 mod refusal;
 mod tables;
 
-pub use detector::{Found, Tag};
+pub use detector::{Found, NotFound, Tag};
 pub use image_util::Cluster;
 pub use painter::{Grid, Print};
 pub use picture::Picture;

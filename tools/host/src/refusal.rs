@@ -6,7 +6,8 @@ use std::{error::Error, fmt};
 /// Writes out a list of refusals, each with its number, its name, what is wrong (in the papers' words) and what to do.
 macro_rules! refusals {
     ($($number:literal $name:ident: $wrong:literal, $to_do:literal;)*) => {
-        /// Why a call, or a quad of a list, was refused. A refused call has written nothing.
+        /// Why a call, or a quad of a list, was refused. A refused call has written nothing, but for the count that a search gives
+        /// beside 13: [`NotFound::NoCode`](crate::NotFound::NoCode).
         ///
         /// Its number is what the C functions answer and what a row of a list reading holds; shown as text it says what is wrong and
         /// what to do.

@@ -13,7 +13,7 @@ use std::collections::BTreeSet;
 type Answer = Result<(usize, u8, u8), Refusal>;
 
 fn search(table: &Table, bits: u64) -> Answer {
-    table.best_tag(bits).map(|found| (found.id, found.turn, found.differing))
+    table.best_tag(bits).map(|found| (found.id, found.turn, found.differing)).map_err(Refusal::from)
 }
 
 /// The sentence: turns 0 to 3, in each the fewest bits, of all 64, in which a code differs, and the first code that has them; the
@@ -167,8 +167,9 @@ fn the_search_is_its_sentence() {
     assert!((0..40).all(|differing| seen.contains(&(0, differing))) && (1..4).all(|turn| seen.contains(&(turn, 2))));
 }
 
+/// But for its count beside 13: tests/compared.rs.
 #[test]
-fn a_refused_search_writes_nothing() {
+fn a_refused_search_writes_no_answer() {
     let many = vec![1; 1_025];
     let tables: [(u32, u8, u8, &[u64]); 9] = [
         (13, 4, 1, &[0x231B]),
@@ -182,8 +183,9 @@ fn a_refused_search_writes_nothing() {
         (6, 1, 1, &[2]),
     ];
     for (number, edge, hamming_distance, codes) in tables {
-        let (mut id, mut turn, mut differing) = (77, 88, 66);
-        assert_eq!(c::best_tag(0x231A, hamming_distance, codes, edge, &mut id, &mut turn, &mut differing), number);
+        let (mut id, mut turn, mut differing, mut compared) = (77, 88, 66, 55);
+        let answer = c::best_tag(0x231A, hamming_distance, codes, edge, &mut id, &mut turn, &mut differing, &mut compared);
+        assert_eq!(answer, number);
         assert_eq!((id, turn, differing), (77, 88, 66));
     }
 }

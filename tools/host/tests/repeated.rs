@@ -6,7 +6,7 @@ mod numbers;
 #[path = "sheets/tables.rs"]
 mod tables;
 
-use muosleap::{FAMILIES, Family, Grid, Picture, Print, Refusal, Shape, Table, c};
+use muosleap::{FAMILIES, Family, Grid, NotFound, Picture, Print, Refusal, Shape, Table, c};
 use numbers::Numbers;
 use std::collections::BTreeSet;
 use tables::{made, many, passing};
@@ -254,7 +254,7 @@ fn grey(picture: &mut Picture<Vec<u8>>, quad: &Eight, table: &Table) {
 fn far_off(table: &Table, code: u64) -> u64 {
     let flips = (1 << table.hamming_distance) - 1;
     let mut words = (0..=(table.edge * table.edge - table.hamming_distance) as u32).map(|place| code ^ flips << place);
-    words.find(|&word| table.best_tag(word) == Err(Refusal::NoCode)).unwrap()
+    words.find(|&word| matches!(table.best_tag(word), Err(NotFound::NoCode { .. }))).unwrap()
 }
 
 /// A quad whose corners are in the picture's last pixel, and its samples outside.

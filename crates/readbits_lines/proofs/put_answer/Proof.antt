@@ -17,13 +17,14 @@ use Rattle.readbits_lines.proofs.put_answer.Tie as tie
 found : (c : tie.After-known-told) → IsTag (c .before .before .before .before .before .args .bits) (c .before .id .given .0 .0) (c .before .id .given .0 .1 .0)
 found c =
     let f = c .before .before .before in
-    tag-found (f .before .before .args .bits) (f .search-t16h5 .result) (f .search-t16h5 .ensures) (c .before .id .given .0 .0) (c .before .id .given .0 .1 .0) (c .before .id .given .0 .1 .1 .0) (c .before .id .given .1)
+    let i = c .before .id .given in
+    tag-found (f .before .before .args .bits) (f .search-t16h5 .result) (f .search-t16h5 .ensures) (i .0 .0) (i .0 .1 .0) (i .0 .1 .1 .0) (i .0 .1 .1 .1 .0) (i .1)
 
 returns : tie.Need-returns
 returns c =
-    let f = c .before .before .before .before .before .before .before in
-    let told = c .before .before .before .before .before .enum-told .given in
-    as-text (ap (λ (t : List ℕ). t ++ (lineFeed ∷ [])) (none-found (f .before .before .args .bits) (f .search-t16h5 .result) (f .search-t16h5 .ensures) (told .0 .0) (told .1)))
+    let m = c .before .before .before .before .before in
+    let f = m .before in
+    as-text (ap (λ (t : List ℕ). t ++ (lineFeed ∷ [])) (none-found (f .before .before .args .bits) (f .search-t16h5 .result) (f .search-t16h5 .ensures) (m .match .keys2)))
     (c .before .before .put .ensures)
 
 cast-put-number : tie.Need-cast-put-number
@@ -77,7 +78,6 @@ put-answer-spec =
     (tie.spec
     (λ c κs. search needs)  -- search-t16h5-requires
     (λ c. search needs)  -- enum-known-id
-    (λ c. search needs)  -- enum-told
     (λ c. search needs)  -- slice-aggregate-put
     (λ c κs. search needs)  -- put-requires
     (λ c. search needs)  -- same-length

@@ -11,14 +11,18 @@ use Rattle.readbits_lines.proofs.search_t16h5.Statement.{statement}
 use Rattle.readbits_lines.proofs.search_t16h5.Tie as tie
 
 best-tag-requires : tie.Need-best-tag-requires
-best-tag-requires c κs = let e = ap (λ (f : Family). f .edge) (c .before .before .family .ensures) in omega arith
+best-tag-requires c κs =
+    let e = c .before .before .family .ensures in
+    let edge = ap (λ (f : Family). f .edge) e in
+    let threshold = ap (λ (f : Family). f .«hamming_distance») e in
+    omega arith
 
 returns : tie.Need-returns
 unfolding searched
 returns c =
     let k = c .before in
     let f = k .before .before in
-    c .best-tag .ensures
+    c .best-tag .ensures .0
     ∙ ap₂ (λ (t : Family) (l : List ℕ). sought (f .before .args .bits) (t .«hamming_distance») l (t .edge)) (f .family .ensures) (k .codes-of .ensures)
 
 pub search-t16h5-spec : {M : Type 1} → statement M

@@ -9,6 +9,7 @@ use borrow.Author.Tests.{not-true, not-false}
 use Rattle.refusals.specs.declared.Frame.{Frame}
 use Rattle.points.specs.declared.Quad.{Quad}
 use Rattle.tables.specs.declared.Family.{Family}
+use Rattle.tables.proofs.Table.{good-table}
 use Rattle.places.specs.declared.Axes.{Axes}
 use Rattle.places.specs.Corners.{badCorners}
 use Rattle.places.specs.Place.{axesOf}
@@ -102,7 +103,8 @@ decode-levels-requires c κs =
     let a = s .args in
     let r = readable (a .plane .now) (a .frame) (a .family) (a .codes .now) (s .pre .0) (s .pre .1) in
     let z = part-size (a .family) (w .sample-levels .last .1 .1 .1 .1 .0) (r .edge-pos) (r .edge-le) (w .sample-levels .ensures .size) in
-    (subst (λ (n : ℕ). 0 < n) (z .1) (z .2), subst (λ (n : ℕ). n ≤ 64) (z .1) (z .3), r .edge-pos, r .edge-le)
+    let near = good-table (a .family) (a .codes .now) (s .pre .1) .coded .near in
+    (subst (λ (n : ℕ). 0 < n) (z .1) (z .2), subst (λ (n : ℕ). n ≤ 64) (z .1) (z .3), r .edge-pos, r .edge-le, near .least, near .most)
 
 returns-4 : tie.Need-returns-4
 returns-4 c =

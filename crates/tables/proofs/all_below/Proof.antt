@@ -1,28 +1,19 @@
 -- The test of what was gathered, with that of the codes from i on, is the test of all codes. Assumes nothing.
-use mathlib.Core.Path.{_≡_, refl, sym, ap, _∙_}
-use mathlib.Core.Bool.{Bool, true, false, _&&_}
+use mathlib.Core.Path.{_≡_, sym, ap, _∙_}
+use mathlib.Core.Bool.{Bool, _&&_}
 use Prim.Native.Nat.{ℕ, _-_, _^_, _≤_}
 use native.Mathlib.Nat.{one-mul}
 use native.Mathlib.Omega.{arith}
-use borrow.Author.Tests.{ltb-true, ltb-false, lt-ltb, le-ltb}
-use lib.Bits.{bitOr, or-lt, or-add-and, and-le-l, and-le-r}
+use borrow.Author.Tests.{lt-ltb}
+use lib.Bits.{bitOr}
 use lib.Dec.{ltb}
 use lib.ListN.{length, drop, getD}
 use lib.Pow.{shl-exact, pow-pos}
 use Rattle.lists.specs.Tab.{all}
-use Rattle.lists.proofs.All.{gather-more, gather-done}
+use Rattle.lists.proofs.All.{gather-more, gather-done, or-below}
 use Rattle.tables.specs.Table.{below}
 use Rattle.tables.proofs.all_below.Statement.{statement}
 use Rattle.tables.proofs.all_below.Tie as tie
-
--- two numbers are below a power of two where their gathered bits are
-or-below : (k a b : ℕ) → below (2 ^ k) (bitOr a b) ≡ below (2 ^ k) a && below (2 ^ k) b
-or-below k a b = go (below (2 ^ k) a) (below (2 ^ k) b) refl refl
-  where
-    go : (s t : Bool) → below (2 ^ k) a ≡ s → below (2 ^ k) b ≡ t → below (2 ^ k) (bitOr a b) ≡ s && t
-    go false t p q = le-ltb (bitOr a b) (2 ^ k) (omega (arith, ltb-false a (2 ^ k) p, or-add-and a b, and-le-r a b))
-    go true false p q = le-ltb (bitOr a b) (2 ^ k) (omega (arith, ltb-false b (2 ^ k) q, or-add-and a b, and-le-l a b))
-    go true true p q = lt-ltb (bitOr a b) (2 ^ k) (or-lt k a b (ltb-true a (2 ^ k) p) (ltb-true b (2 ^ k) q))
 
 abbrev Inv-loop : tie.InvT-loop
 Inv-loop codes places gathered₀ i₀ gathered i =

@@ -5,10 +5,10 @@ use Rattle.vectors_tags.proofs.words.digest_alike.Statement.{statement}
 use Rattle.vectors_tags.proofs.words.digest_alike.Tie as tie
 
 abbrev Inv-loop : tie.InvT-loop
-Inv-loop frame table codes rule count last₀ digest₀ k₀ last digest k = Unit {0}
+Inv-loop frame table codes counted rule count last₀ digest₀ k₀ last digest k = Unit {0}
 
 abbrev μ-loop : tie.MeasureT-loop
-μ-loop frame table codes rule count last₀ digest₀ k₀ last digest k = count - k
+μ-loop frame table codes counted rule count last₀ digest₀ k₀ last digest k = count - k
 
 pub digest-alike-spec : {M : Type 1} → statement M
 digest-alike-spec =

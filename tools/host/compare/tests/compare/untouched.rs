@@ -141,11 +141,17 @@ fn words(calls: &mut Calls) {
         [(1, codes, 0), (1, codes, 9), (0, codes, 4), (65, codes, 4), (1, &[], 4), (1, &many, 4), (1, &outside, 4), (1, &[2], 1)];
     for (distance, codes, edge) in tables {
         let lent = calls.found();
-        calls
-            .refuse("best_tag", 6, lent, |(id, turn, differing)| c::best_tag(0x231B, distance, codes, edge, id, turn, differing));
+        let lent = (lent, calls.numbers.next() as usize);
+        calls.refuse("best_tag", 6, lent, |((id, turn, differing), compared)| {
+            c::best_tag(0x231B, distance, codes, edge, id, turn, differing, compared)
+        });
     }
-    let lent = calls.found();
-    calls.refuse("best_tag", 13, lent, |(id, turn, differing)| c::best_tag(0x231A, 1, codes, 4, id, turn, differing));
+    // Beside 13 the count is written, and nothing else.
+    let (lent, mut compared) = (calls.found(), calls.numbers.next() as usize);
+    let unread =
+        |id: &mut _, turn: &mut _, differing: &mut _, compared| c::best_tag(0x231A, 1, codes, 4, id, turn, differing, compared);
+    calls.refuse("best_tag", 13, lent, |(id, turn, differing)| unread(id, turn, differing, &mut compared));
+    assert_eq!(compared, 120);
 }
 
 fn levels(calls: &mut Calls) {

@@ -3,7 +3,7 @@
 use crate::measure::{Times, alone, both, timed};
 use crate::painting::{SHEETS, Tags, painted, painter, sheet_painter};
 use muosleap::detector::{bit_code, rotate_bits};
-use muosleap::{Family, Picture, Quad, Refusal, Shape, Table, c};
+use muosleap::{Family, NotFound, Picture, Quad, Shape, Table, c};
 use muosleap_compare::{Numbers, SEED, pictures};
 use oracle::image::GrayImage;
 use oracle::original::detector as original;
@@ -53,17 +53,23 @@ pub fn words() -> Vec<(String, Times)> {
     let clean = FAMILY.codes().to_vec();
     let mut numbers = Numbers::from(SEED + 6_100);
     let misread: Vec<u64> = clean.iter().map(|&code| code ^ 1 << numbers.below(18) ^ 1 << (18 + numbers.below(18))).collect();
-    let third: Vec<u64> = clean.iter().map(|&code| turned(code, FAMILY.table().edge)).collect();
+    let next = |words: &Vec<u64>| -> Vec<u64> { words.iter().map(|&word| turned(word, FAMILY.table().edge)).collect() };
+    let third = next(&clean);
+    let second = next(&third);
+    let first = next(&second);
     let random = std::iter::repeat_with(|| numbers.next() >> 28);
-    let unread: Vec<u64> = random.filter(|&word| FAMILY.table().best_tag(word) == Err(Refusal::NoCode)).take(587).collect();
+    let is_unread = |word: &u64| matches!(FAMILY.table().best_tag(*word), Err(NotFound::NoCode { .. }));
+    let unread: Vec<u64> = random.filter(is_unread).take(587).collect();
     vec![
         ("`rotate_bits`, edge 4".into(), turns(&clean, 4)),
         ("`rotate_bits`, edge 5".into(), turns(&clean, 5)),
         ("`rotate_bits`, edge 6".into(), turns(&clean, 6)),
         ("`rotate_bits`, edge 8, by the formula".into(), turns(&clean, 8)),
         ("`best_tag`, clean, each of the 587 codes".into(), search(&clean, Some(0))),
-        ("`best_tag`, two bits misread".into(), search(&misread, Some(0))),
+        ("`best_tag`, clean, at turn 1".into(), search(&first, Some(1))),
+        ("`best_tag`, clean, at turn 2".into(), search(&second, Some(2))),
         ("`best_tag`, clean, at turn 3".into(), search(&third, Some(3))),
+        ("`best_tag`, two bits misread".into(), search(&misread, Some(0))),
         ("`best_tag`, unread".into(), search(&unread, None)),
     ]
 }
