@@ -74,14 +74,15 @@ extern "C" {
 uint32_t muosleap_rotate_bits(uint64_t bits, uint8_t edge, uint64_t *word);
 
 /*
- * The code that a word shows, and the first turn, 0 to 3, at which it differs from a code in fewer bits than the match threshold.
+ * The code that a word shows, and the first turn, 0 to 3, at which it differs from a code in fewer bits than the match threshold. The
+ * search ends at a code that differs in no bit; its answer is that of a search through all codes.
  * Refusals: 6 (the border is not lent and not tested), 13.
  * id: the code's position from 0. turn: the turn. differing: in how many bits the code differs from the word turned so often, the
  * fewest that a code does; below the match threshold, so 63 at most. Bits above the square count too, at turn 0 alone: a turned word
  * has none.
- * compared: how many codes were compared. A code that differs in no bit ends the search, so in a table of n codes it is turn × n +
- * id + 1 where differing is 0, and (turn + 1) × n where it is not. It is written beside 0 and beside 13, where it is 4 × n; beside 13
- * nothing else is written, and beside 6 nothing at all.
+ * compared: the count of codes compared, each code met in each turn begun, the one that ends the search included. In a table of n codes
+ * it is turn × n + id + 1 where differing is 0, and (turn + 1) × n where it is not. It is written beside 0 and beside 13, where it is
+ * 4 × n; beside 13 nothing else is written, and beside 6 nothing at all.
  */
 uint32_t muosleap_best_tag(uint64_t bits, uint8_t hamming_distance, const uint64_t *codes, size_t codes_count, uint8_t edge,
                            size_t *id, uint8_t *turn, uint8_t *differing, size_t *compared);

@@ -154,11 +154,19 @@ def lent():
     long = Table(8, 1, [numbers.next() for _ in range(1_024)])
     for code in [long.codes[0], long.codes[1_023]]:
         long.search(*(long.turned(code, turns) for turns in range(4)), code ^ 1)
+    # Tables about as long as one or two blocks of 16 codes, with two near codes before the equal one, which is the last.
+    blocks = []
+    for length in [15, 16, 17, 31, 32, 33, 49]:
+        codes = [numbers.next() >> 28 for _ in range(length)]
+        codes[0], codes[length // 2] = codes[-1] ^ 3, codes[-1] ^ 1
+        table = Table(6, 3, codes)
+        table.search(*(table.turned(codes[-1], turns) for turns in range(4)), codes[-1] ^ 4, codes[-1] ^ 5, codes[-1] ^ 7)
+        blocks.append(table)
     refused = [Table(0, 1, [0]), Table(9, 1, [0]), Table(4, 0, [0x231B]), Table(4, 65, [0x231B]), Table(4, 1, []), Table(4, 1, [1 << 16])]
     refused.append(Table(8, 1, long.codes + [0]))
     for table in refused:
         table.search(0x231B, 0)
-    return [frame for table in [once, twice, near, later, *edges, long, *refused] for frame in table.frames]
+    return [frame for table in [once, twice, near, later, *edges, long, *blocks, *refused] for frame in table.frames]
 
 
 frames = [frame for number in range(5) for frame in family(number)] + lent()

@@ -25,7 +25,8 @@ unfoldable pub bestTag : ℕ → ℕ → List ℕ → ℕ → Outcome Seen
 unfolding badCodes searchFrom
 bestTag bits threshold codes edge = cond (badCodes edge threshold codes) (refused 6) (search bits threshold codes edge)
 
--- 02's "count of codes compared" beside its answer: a tag has one, and so has 13; where the table is refused, no code was compared
+-- 02's "count of codes compared", which stands beside what `bestTag` says: a tag has one, and so has 13; where the table is refused, no code
+-- was compared
 unfoldable pub codesCompared : ℕ → ℕ → List ℕ → ℕ → Outcome ℕ
 unfolding badCodes comparedFrom
 codesCompared bits threshold codes edge = cond (badCodes edge threshold codes) (refused 6) (accepted (compared bits threshold codes edge))

@@ -18,7 +18,7 @@ fewest-le w [] k h = absurd (not-suc-le-zero h)
 fewest-le w (code ∷ codes) zero h = min-le-left (differing w code) (fewest w codes)
 fewest-le w (code ∷ codes) (suc k) h = le-trans (min-le-right (differing w code) (fewest w codes)) (fewest-le w codes k (le-of-suc-le-suc h))
 
--- a number that no code is below, and that is 65 or met by a code, is the fewest
+-- a number of at most 65 that no code is below is at most the fewest
 pub fewest-is : (w d : ℕ) (codes : List ℕ) → d ≤ 65 → ((k : ℕ) → k < length codes → d ≤ differing w (getD codes k 0)) → d ≤ fewest w codes
 unfolding fewest
 fewest-is w d [] t h = t

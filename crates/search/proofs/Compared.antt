@@ -12,47 +12,47 @@ use lib.ListN.{length}
 use Rattle.refusals.specs.Outcome.{Outcome, accepted, refused}
 use Rattle.word.specs.Word.{turn, differing}
 use Rattle.search.specs.Search.{fewest, firstAt, Seen, searchFrom, search}
-use Rattle.search.specs.Compared.{met, comparedFrom, compared}
+use Rattle.search.specs.Compared.{metIn, comparedFrom, compared}
 use Rattle.search.proofs.Closest.{fewest-le, first-drop, fewest-first}
 use Rattle.search.proofs.Search.{hit, miss, none-left}
 
 -- the codes met in a turn are those up to the first that differs in no bit, or all
-met-first : (w : ℕ) (codes : List ℕ) → met w codes ≡ min (suc (firstAt w 0 codes)) (length codes)
-unfolding met firstAt
+met-first : (w : ℕ) (codes : List ℕ) → metIn w codes ≡ min (suc (firstAt w 0 codes)) (length codes)
+unfolding metIn firstAt
 met-first w [] = refl
 met-first w (code ∷ codes) = go (met-first w codes) (eqb (differing w code) 0)
   where
-    go : met w codes ≡ min (suc (firstAt w 0 codes)) (length codes) → (t : Bool)
-        → cond t 1 (suc (met w codes)) ≡ min (suc (cond t 0 (suc (firstAt w 0 codes)))) (suc (length codes))
+    go : metIn w codes ≡ min (suc (firstAt w 0 codes)) (length codes) → (t : Bool)
+        → cond t 1 (suc (metIn w codes)) ≡ min (suc (cond t 0 (suc (firstAt w 0 codes)))) (suc (length codes))
     go e true = omega arith
     go e false = omega (arith, e)
 
 -- the first that differs in no bit is met last
-pub met-perfect : (w : ℕ) (codes : List ℕ) → firstAt w 0 codes < length codes → met w codes ≡ firstAt w 0 codes + 1
+pub met-perfect : (w : ℕ) (codes : List ℕ) → firstAt w 0 codes < length codes → metIn w codes ≡ firstAt w 0 codes + 1
 met-perfect w codes h = met-first w codes ∙ omega arith
 
 -- where there is none, all are met
-met-all : (w : ℕ) (codes : List ℕ) → length codes ≤ firstAt w 0 codes → met w codes ≡ length codes
+met-all : (w : ℕ) (codes : List ℕ) → length codes ≤ firstAt w 0 codes → metIn w codes ≡ length codes
 met-all w codes h = met-first w codes ∙ omega arith
 
 -- as where each differs
-pub met-unequal : (w : ℕ) (codes : List ℕ) → 0 < fewest w codes → met w codes ≡ length codes
+pub met-unequal : (w : ℕ) (codes : List ℕ) → 0 < fewest w codes → metIn w codes ≡ length codes
 met-unequal w codes h = met-all w codes (omega (arith, first-drop w 0 codes (length codes) (le-refl (length codes)) (λ k l. lt-of-lt-of-le h (fewest-le w codes k l))))
 
-met-most : (w : ℕ) (codes : List ℕ) → met w codes ≤ length codes
+met-most : (w : ℕ) (codes : List ℕ) → metIn w codes ≤ length codes
 met-most w codes = omega (arith, met-first w codes)
 
 module _ (threshold : ℕ) (codes : List ℕ) (edge : ℕ) where
   -- one turn begun: it answers, and is the last
-  pub counted-last : (n w : ℕ) → fewest w codes < threshold → comparedFrom threshold codes edge (suc n) w ≡ met w codes
+  pub counted-last : (n w : ℕ) → fewest w codes < threshold → comparedFrom threshold codes edge (suc n) w ≡ metIn w codes
   unfolding comparedFrom
   counted-last n w h =
-      ap (λ (t : Bool). met w codes + cond t 0 (comparedFrom threshold codes edge n (turn edge w))) (lt-ltb (fewest w codes) threshold h) ∙ add-zero (met w codes)
+      ap (λ (t : Bool). metIn w codes + cond t 0 (comparedFrom threshold codes edge n (turn edge w))) (lt-ltb (fewest w codes) threshold h) ∙ add-zero (metIn w codes)
 
   -- or the next is begun
-  pub counted-on : (n w : ℕ) → threshold ≤ fewest w codes → comparedFrom threshold codes edge (suc n) w ≡ met w codes + comparedFrom threshold codes edge n (turn edge w)
+  pub counted-on : (n w : ℕ) → threshold ≤ fewest w codes → comparedFrom threshold codes edge (suc n) w ≡ metIn w codes + comparedFrom threshold codes edge n (turn edge w)
   unfolding comparedFrom
-  counted-on n w h = ap (λ (t : Bool). met w codes + cond t 0 (comparedFrom threshold codes edge n (turn edge w))) (le-ltb (fewest w codes) threshold h)
+  counted-on n w h = ap (λ (t : Bool). metIn w codes + cond t 0 (comparedFrom threshold codes edge n (turn edge w))) (le-ltb (fewest w codes) threshold h)
 
   pub none-counted : (w : ℕ) → comparedFrom threshold codes edge 0 w ≡ 0
   unfolding comparedFrom
@@ -77,10 +77,10 @@ byAnswer n turns (refused m) = turns * n
 
 -- the codes met in a turn that a code has to answer
 met-answer : (w : ℕ) (codes : List ℕ) (r : ℕ) → fewest w codes < 65
-    → r * length codes + met w codes ≡ cond (eqb (fewest w codes) 0) (r * length codes + firstAt w (fewest w codes) codes + 1) ((r + 1) * length codes)
+    → r * length codes + metIn w codes ≡ cond (eqb (fewest w codes) 0) (r * length codes + firstAt w (fewest w codes) codes + 1) ((r + 1) * length codes)
 met-answer w codes r h = go (eqb (fewest w codes) 0) refl
   where
-    go : (t : Bool) → eqb (fewest w codes) 0 ≡ t → r * length codes + met w codes ≡ cond t (r * length codes + firstAt w (fewest w codes) codes + 1) ((r + 1) * length codes)
+    go : (t : Bool) → eqb (fewest w codes) 0 ≡ t → r * length codes + metIn w codes ≡ cond t (r * length codes + firstAt w (fewest w codes) codes + 1) ((r + 1) * length codes)
     go true t =
         let e = eqb-true (fewest w codes) 0 t in
         let i : firstAt w 0 codes < length codes = subst (λ (d : ℕ). firstAt w d codes < length codes) e (fewest-first w codes h .inside) in

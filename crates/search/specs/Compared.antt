@@ -8,20 +8,20 @@ use Rattle.search.specs.Search.{fewest}
 
 -- how many codes are met in one turn: "The search must leave both the turn and the table as soon as a code differs in no bit", and "the code
 -- that ends the search" is included
-unfoldable pub met : ℕ → List ℕ → ℕ
+unfoldable pub metIn : ℕ → List ℕ → ℕ
 unfolding differingIn
-met w [] = 0
-met w (code ∷ codes) =
-    let more = suc (met w codes) in
+metIn w [] = 0
+metIn w (code ∷ codes) =
+    let more = suc (metIn w codes) in
     cond (eqb (differing w code) 0) 1 more
 
 -- n turns are left: "Each code met in each turn begun counts one". A turn that answers is the last
 unfoldable pub comparedFrom : ℕ → List ℕ → ℕ → ℕ → ℕ → ℕ
-unfolding fewest met turn
+unfolding fewest metIn turn
 comparedFrom threshold codes edge zero w = 0
 comparedFrom threshold codes edge (suc n) w =
     let rest = comparedFrom threshold codes edge n (turn edge w) in
-    met w codes + cond (ltb (fewest w codes) threshold) 0 rest
+    metIn w codes + cond (ltb (fewest w codes) threshold) 0 rest
 
 -- "a count of codes compared", over turns 0 to 3
 abbrev pub compared : ℕ → ℕ → List ℕ → ℕ → ℕ

@@ -11,12 +11,13 @@ ghost use Rattle.search.specs.Compared.{compared};
 ghost use Rattle.search.specs.Answer.{paperFound, paperCount};
 ghost use Rattle.refusals.specs.Outcome.{accepted};
 
-// The position of a code, and the number of bits in which it differs from a word.
+// The position of a code, and the number of bits in which it differs from a word. While no code is near, the match threshold stands there.
 pub struct Best {
     pub id: usize,
     pub differing: u8,
 }
 
+// What a search says, with the count of codes compared. `Unread` is refusal 13, and `BadTable` 6, which the entry gives and not this crate.
 pub enum Found {
     Tag {
         id: usize,
@@ -30,8 +31,8 @@ pub enum Found {
     BadTable,
 }
 
-// Whether none of the codes differs from a word in fewer bits than `bound`. What is missing to the bound wraps around to a number with
-// the highest bit, and all bits are gathered into one number: so the codes are compared in vector registers.
+// Whether none of the codes differs from a word in fewer bits than `bound`. Where a code does, `d` less `bound` wraps around and has its
+// highest bit set. The bits of all are gathered into one number, so that the codes are compared in vector registers.
 fn none_nearer(bits: u64, bound: u8, codes: &[u64]) -> bool
     requires { ⌜ bound ≤ 64 ⌝ }
     ensures { λ r. ⌜ r ≡ all (λ code. leb bound (differing bits code)) (now (codes .entry)) ⌝ }
@@ -71,7 +72,8 @@ fn first_nearer(bits: u64, bound: u8, codes: &[u64]) -> usize
     i
 }
 
-// The same from a position on. Blocks of codes that hold no such code are passed over whole.
+// The same from a position on. Blocks of 16 codes that hold no such code are passed over whole; in the first that does, codes are looked
+// at one by one.
 fn next_nearer(bits: u64, bound: u8, codes: &[u64], from: usize) -> usize
     requires { ⌜ (bound ≤ 64) × (from ≤ length (now codes)) ⌝ }
     ensures { λ r. ⌜ Next bits bound (now (codes .entry)) from r ⌝ }
@@ -87,8 +89,9 @@ fn next_nearer(bits: u64, bound: u8, codes: &[u64], from: usize) -> usize
     i
 }
 
-// The first of the four turns that has a code nearer than the match threshold answers, with the nearest: each code of the inner loop is
-// nearer than those before it. Most words are clean, and a code that differs in no bit leaves both the turn and the table.
+// The first of the four turns that has a code nearer than the match threshold answers, with the nearest. The inner loop goes over the codes
+// that are nearer than all before them. Most words are clean: at a code that differs in no bit the search leaves both the turn and the
+// table. In that turn the codes up to it count as compared, in each turn before it all.
 pub fn best_tag(bits: u64, hamming_distance: u8, codes: &[u64], edge: u8) -> Found
     requires { ⌜ (0 < edge) × (edge ≤ 8) × (0 < «hamming_distance») × («hamming_distance» ≤ 64) ⌝ }
     ensures { λ r. ⌜ (paperFound r ≡ search bits «hamming_distance» (now (codes .entry)) edge) × (paperCount r ≡ accepted (compared bits «hamming_distance» (now (codes .entry)) edge)) ⌝ }

@@ -39,9 +39,9 @@ pub struct Found {
     /// In how many bits the code differs from the word turned so often, the fewest that a code of the table does: below the match
     /// threshold, so 63 at most. Bits above the square count too, at turn 0 alone: a turned word has none.
     pub differing: u8,
-    /// How many codes the word was compared with. The search ends at a code that differs in no bit, so in a table of n codes it is
-    /// turn × n + id + 1 where `differing` is 0; where it is not, each turn went through the table, and it is (turn + 1) × n. The four
-    /// turns of one word may have different counts.
+    /// The count of codes compared: each code met in each turn begun, up to the one that ends the search, which is the first that
+    /// differs in no bit. So in a table of n codes it is turn × n + id + 1 where `differing` is 0; where it is not, each turn begun went
+    /// through the table, and it is (turn + 1) × n. The four turns of one word may have different counts.
     pub compared: usize,
 }
 
@@ -50,7 +50,7 @@ pub struct Found {
 /// ```
 /// use muosleap::{Family, NotFound, Refusal, Table};
 ///
-/// // T16H5 has 30 codes: four turns of them were compared.
+/// // T16H5 has 30 codes, all of which were compared in each of four turns.
 /// let table = Family::T16H5.table();
 /// assert_eq!(table.best_tag(0x231A), Err(NotFound::NoCode { compared: 120 }));
 ///
@@ -62,7 +62,7 @@ pub struct Found {
 pub enum NotFound {
     /// [`Refusal::NoCode`], 13: no code is near in four turns.
     NoCode {
-        /// How many codes the word was compared with, four times the table's length.
+        /// The count of codes compared, four times the table's length.
         compared: usize,
     },
     /// [`Refusal::BadTable`], 6: no code was compared.
@@ -160,7 +160,7 @@ impl Table<'_> {
             Ok(()) => Ok(Found { id, turn, differing, compared }),
             Err(Refusal::NoCode) => Err(NotFound::NoCode { compared }),
             Err(Refusal::BadTable) => Err(NotFound::BadTable),
-            Err(other) => unreachable!("{other}"),
+            Err(other) => panic!("libmuosleap_c.a is of another version: {other}"),
         }
     }
 

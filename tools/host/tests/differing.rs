@@ -167,29 +167,6 @@ fn the_search_is_its_sentence() {
     assert!((0..40).all(|differing| seen.contains(&(0, differing))) && (1..4).all(|turn| seen.contains(&(turn, 2))));
 }
 
-/// But for its count beside 13: tests/compared.rs.
-#[test]
-fn a_refused_search_writes_no_answer() {
-    let many = vec![1; 1_025];
-    let tables: [(u32, u8, u8, &[u64]); 9] = [
-        (13, 4, 1, &[0x231B]),
-        (6, 0, 1, &[1]),
-        (6, 9, 1, &[1]),
-        (6, 4, 0, &[0x231A]),
-        (6, 4, 65, &[0x231A]),
-        (6, 4, 1, &[]),
-        (6, 4, 1, &many),
-        (6, 4, 1, &[0x231A, 0x1_0000]),
-        (6, 1, 1, &[2]),
-    ];
-    for (number, edge, hamming_distance, codes) in tables {
-        let (mut id, mut turn, mut differing, mut compared) = (77, 88, 66, 55);
-        let answer = c::best_tag(0x231A, hamming_distance, codes, edge, &mut id, &mut turn, &mut differing, &mut compared);
-        assert_eq!(answer, number);
-        assert_eq!((id, turn, differing), (77, 88, 66));
-    }
-}
-
 /// What all four starts of a quad say, alone and in a list between refused quads: the same but for the turn, which follows the start.
 /// In one list of all four, those that are read are refused with 18.
 fn four_starts(table: &Table, picture: &Picture<Vec<u8>>, quad: Quad) -> Result<Tag, Refusal> {

@@ -12,7 +12,7 @@ use Rattle.refusals.specs.Outcome.{accepted}
 use Rattle.word.specs.Word.{turn, differing}
 use Rattle.word.proofs.Differing.{differing-le}
 use Rattle.search.specs.Search.{fewest, firstAt, searchFrom, search}
-use Rattle.search.specs.Compared.{met, comparedFrom, compared}
+use Rattle.search.specs.Compared.{metIn, comparedFrom, compared}
 use Rattle.search.specs.declared.Best.{Best}
 use Rattle.search.proofs.Closest.{fewest-is}
 use Rattle.search.proofs.Next.{Held, held-first, held-fewest, Low, low-begins, now-held, low-again}
@@ -28,7 +28,7 @@ record Ends (t : ℕ) (codes : List ℕ) (w : ℕ) (b : Best) (before count : �
   lowest : b .differing ≡ fewest w codes
   first : b .id ≡ firstAt w (fewest w codes) codes
   near : b .differing < t
-  counted : count ≡ before + met w codes
+  counted : count ≡ before + metIn w codes
 
 module _ (t : ℕ) (codes : List ℕ) (w : ℕ) where
   -- a code that differs in no bit
@@ -73,7 +73,7 @@ module _ (t : ℕ) (codes : List ℕ) (edge r w : ℕ) (more : r < 4) where
       ap₂ (λ (id d : ℕ). accepted (record { id = id; turn = r; differing = d })) (e .first) (e .lowest)
       ∙ sym (hit t codes edge (4 - (r + 1)) r w (omega (arith, e .lowest, e .near))) ∙ ap (λ (n : ℕ). searchFrom t codes edge n r w) (sym left)
 
-  last : (b : Best) (before count : ℕ) → Ends t codes w b before count → met w codes ≡ comparedFrom t codes edge (4 - r) w
+  last : (b : Best) (before count : ℕ) → Ends t codes w b before count → metIn w codes ≡ comparedFrom t codes edge (4 - r) w
   last b before count e =
       sym (ap (λ (n : ℕ). comparedFrom t codes edge n w) left ∙ counted-last t codes edge (4 - (r + 1)) w (omega (arith, e .lowest, e .near)))
 
@@ -82,9 +82,9 @@ module _ (t : ℕ) (codes : List ℕ) (edge r w : ℕ) (more : r < 4) where
       ap₂ (λ (n x : ℕ). searchFrom t codes edge (4 - (r + 1)) n x) (add-one r) q ∙ sym (miss t codes edge (4 - (r + 1)) r w h)
       ∙ ap (λ (n : ℕ). searchFrom t codes edge n r w) (sym left)
 
-  more-left : (v : ℕ) → t ≤ fewest w codes → v ≡ turn edge w → met w codes + comparedFrom t codes edge (4 - (r + 1)) v ≡ comparedFrom t codes edge (4 - r) w
+  more-left : (v : ℕ) → t ≤ fewest w codes → v ≡ turn edge w → metIn w codes + comparedFrom t codes edge (4 - (r + 1)) v ≡ comparedFrom t codes edge (4 - r) w
   more-left v h q =
-      ap (λ (x : ℕ). met w codes + comparedFrom t codes edge (4 - (r + 1)) x) q ∙ sym (counted-on t codes edge (4 - (r + 1)) w h)
+      ap (λ (x : ℕ). metIn w codes + comparedFrom t codes edge (4 - (r + 1)) x) q ∙ sym (counted-on t codes edge (4 - (r + 1)) w h)
       ∙ ap (λ (n : ℕ). comparedFrom t codes edge n w) (sym left)
 
 -- ---- the loops
@@ -154,7 +154,7 @@ loop-again c =
     let o = l .before .before .before in
     let a = o .before .before .args in (
       low-again (o .turns .seen) (a .codes .now) (a .hamming-distance) (l .loop .best .id) (l .loop .best .differing) (l .loop .id) (x .differing-bits .result) (l .loop .inv .0) (omega arith) (x .differing-bits .ensures)
-          (c .next-nearer2 .result) (c .before .if1 .left) (c .next-nearer2 .ensures),
+          (c .next-nearer2 .result) (λ e. omega (arith, c .before .if1 .left, e)) (c .next-nearer2 .ensures),
       l .loop .inv .1,
     )
 

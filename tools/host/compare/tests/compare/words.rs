@@ -1,5 +1,4 @@
-//! Turns, the search, the families' tables, and, against a few lines that follow documents 01 and 02, the likeness check and the count
-//! of codes compared.
+//! Turns, the search, the families' tables, and the likeness check against a few lines that follow document 01.
 
 use crate::tally::{Job, Tally, job, parts};
 use muosleap::{FAMILIES, Family, NotFound, Refusal, Table, detector::rotate_bits};
@@ -21,7 +20,6 @@ pub fn jobs() -> Vec<Job> {
         parts("best_tag: T36H11, codes with 0 to 5 flips, turned", 8, near_words),
         parts("best_tag: T36H11, codes with 0 to 5 flips and high bits", 4, high_bits),
         parts("best_tag: T36H11, codes damaged in a quarter of the bits", 4, damaged_words),
-        job("best_tag: codes compared, by 02's sentence", counts),
         parts("best_tag: lent tables, edges 1 to 8, 1 to 1,024 codes", 8, lent_tables),
         parts("check_likeness: lent tables, against 01's sentence", 4, likeness),
     ]
@@ -88,44 +86,11 @@ fn told_by(answer: Answer, table: &Table) -> usize {
     }
 }
 
-fn input(table: &Table, bits: u64) -> String {
-    format!("edge {}, {} codes, word {bits:#x}", table.edge, table.codes.len())
-}
-
 /// Searches one word in a table on both sides. The original has no count: ours is held to what its answer says.
 fn search(table: &Table, bits: u64, tally: &mut Tally) {
     let theirs = original(table, bits);
-    tally.same(ours(table, bits), (theirs, told_by(theirs, table)), || input(table, bits));
-}
-
-/// 02's sentence: "Each code met in each turn begun counts one, the code that ends the search included".
-fn sentence(table: &Table, bits: u64) -> usize {
-    let (mut word, mut count) = (bits, 0);
-    for _ in 0..4 {
-        let mut near = false;
-        for code in table.codes {
-            count += 1;
-            match (word ^ code).count_ones() {
-                0 => return count,
-                differing => near |= differing < table.hamming_distance as u32,
-            }
-        }
-        if near {
-            break;
-        }
-        word = turned(word, table.edge);
-    }
-    count
-}
-
-/// The count by the sentence itself: each word of T16H5, and words near a code of the other families.
-fn counts(tally: &mut Tally) {
-    let mut numbers = Numbers::from(SEED + 6_600);
-    let mut count = |table: &Table, bits: u64| tally.same(ours(table, bits).1, sentence(table, bits), || input(table, bits));
-    (0..1 << 16).for_each(|bits| count(&Family::T16H5.table(), bits));
-    for table in [Family::T25H7, Family::T25H9, Family::T36H11, Family::T36H11B1].map(|family| family.table()) {
-        (0..200_000).for_each(|_| count(&table, near_word(&table, 5, &mut numbers)));
-    }
+    let input = || format!("edge {}, {} codes, word {bits:#x}", table.edge, table.codes.len());
+    tally.same(ours(table, bits), (theirs, told_by(theirs, table)), input);
 }
 
 fn sweep(family: Family, words: std::ops::Range<u64>, tally: &mut Tally) {
