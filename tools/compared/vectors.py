@@ -1,7 +1,7 @@
 #!/usr/bin/env python3
 """Writes crates/vectors_tags/data/compared: searches with the count of codes compared, from the papers' words alone.
 
-    python3 tools/compared/vectors.py ORIGINAL/src/tag_families.rs
+    python3 tools/compared/vectors.py DIR/tag_families.rs
 
 The original has no such count. The families' codes come from its file; nothing here reads or runs this repository's code.
 tools/oracle/README.md has the format of the file: frames of kinds 0, 6 and 7.

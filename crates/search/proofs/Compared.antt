@@ -75,7 +75,7 @@ abbrev pub byAnswer : (n turns : ℕ) → Outcome Seen → ℕ
 byAnswer n turns (accepted s) = cond (eqb (s .differing) 0) (s .turn * n + s .id + 1) ((s .turn + 1) * n)
 byAnswer n turns (refused m) = turns * n
 
--- the codes met in a turn that a code has to answer
+-- the codes met in a turn that answers
 met-answer : (w : ℕ) (codes : List ℕ) (r : ℕ) → fewest w codes < 65
     → r * length codes + metIn w codes ≡ cond (eqb (fewest w codes) 0) (r * length codes + firstAt w (fewest w codes) codes + 1) ((r + 1) * length codes)
 met-answer w codes r h = go (eqb (fewest w codes) 0) refl

@@ -90,8 +90,8 @@ fn next_nearer(bits: u64, bound: u8, codes: &[u64], from: usize) -> usize
 }
 
 // The first of the four turns that has a code nearer than the match threshold answers, with the nearest. The inner loop goes over the codes
-// that are nearer than all before them. Most words are clean: at a code that differs in no bit the search leaves both the turn and the
-// table. In that turn the codes up to it count as compared, in each turn before it all.
+// that are nearer than the threshold and than all before them. Most words are clean: at a code that differs in no bit the search leaves
+// both the turn and the table. In that turn the codes up to it count as compared, in each turn before it all.
 pub fn best_tag(bits: u64, hamming_distance: u8, codes: &[u64], edge: u8) -> Found
     requires { ⌜ (0 < edge) × (edge ≤ 8) × (0 < «hamming_distance») × («hamming_distance» ≤ 64) ⌝ }
     ensures { λ r. ⌜ (paperFound r ≡ search bits «hamming_distance» (now (codes .entry)) edge) × (paperCount r ≡ accepted (compared bits «hamming_distance» (now (codes .entry)) edge)) ⌝ }

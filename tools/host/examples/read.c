@@ -14,7 +14,7 @@
 
 enum { T36H11 = 3, WIDTH = 160, HEIGHT = 120, PITCH = 192, SIDE = 32, ROWS = 2, COLUMNS = 3, TAGS = ROWS * COLUMNS };
 
-/* Ends the program where a call is refused. A refused call has written nothing. */
+/* Ends the program where a call is refused. None of the calls here writes anything then. */
 static void accepted(const char *call, uint32_t refusal)
 {
     if (refusal != 0) {

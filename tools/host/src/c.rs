@@ -1,7 +1,7 @@
 //! The C interface as it crosses: one safe function for each function of `include/muosleap.h`, under its name without the prefix,
 //! with its parameters in its order, a pointer and a count as one slice. Each answers the refusal's number, 0 where accepted, and
-//! has written its outputs only then. Use it where the host keeps its own buffers; the rest of the crate is built on it. The
-//! `pitch` of an 8-bit plane without filler is its width.
+//! has written its outputs only then, but for the count of codes compared, which [`best_tag`] writes beside 13 too. Use it where the
+//! host keeps its own buffers; the rest of the crate is built on it. The `pitch` of an 8-bit plane without filler is its width.
 //!
 //! This is the only module with `unsafe`. What the C functions ask of every caller holds by the types: a slice's or a reference's
 //! pointer is aligned and not null, also for a count of 0; its memory is initialized, and writable behind `&mut`, for the whole call;

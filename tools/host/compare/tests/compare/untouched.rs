@@ -1,5 +1,6 @@
 //! A refused call leaves every lent buffer as it was, bit for bit: NaN payloads, the worklist, planes with their filler, the
-//! small outputs. An accepted one leaves what lies beyond its answer, and filler. This needs no file of the original's.
+//! small outputs; beside 13 the search writes its count alone. An accepted one leaves what lies beyond its answer, and filler. This
+//! needs no file of the original's.
 
 use muosleap::{Family, Picture, c};
 use muosleap_compare::{Numbers, SEED, pictures};
