@@ -17,7 +17,7 @@ from itertools import zip_longest
 from pathlib import Path
 
 ROOT = Path(__file__).resolve().parents[2]
-ROOTS = ["muosleap", "muosleap_paint", "muosleap_picture", "muosleap_c", "paper", "demand3", "readbits_lines", "turning_lines"]
+ROOTS = ["muosleap", "muosleap_paint", "muosleap_picture", "muosleap_report", "muosleap_c", "paper", "demand3", "listed_report", "readbits_lines", "turning_lines"]
 ARCHITECTURE = ROOT / "docs/ARCHITECTURE.md"
 TRACE = ROOT / "docs/TRACE.md"
 TURNING = ROOT / "docs/TURNING.md"

@@ -24,10 +24,10 @@ ghost use Rattle.listing.specs.Steps.{mostIds, Countable, counted, repea
 // The numbers of a row, and the most quads of a list.
 pub const ROW_SIZE: usize = 4;
 
-const MOST_QUADS: usize = 1024;
+pub const MOST_QUADS: usize = 1024;
 
 // The most ids: a table has at most so many codes.
-const MOST_IDS: usize = 1024;
+pub const MOST_IDS: usize = 1024;
 
 // Refusal 16, of the lengths of the quad list and the two outputs.
 pub fn bad_list(quads: usize, rows: usize, corners: usize) -> bool
@@ -59,7 +59,7 @@ fn put_numbers(rows: &mut [u64], q: usize, refusal: u8, id: usize, turn: u8, dif
 }
 
 // The row of a quad's reading.
-fn put_row(rows: &mut [u64], q: usize, reading: Reading)
+pub fn put_row(rows: &mut [u64], q: usize, reading: Reading)
     requires { ⌜ rowSize * q + rowSize ≤ length (now rows) ⌝ }
     ensures { λ _. ⌜ now (rows .exit) ≡ sets (now (rows .entry)) (rowSize * q) (rowOf (paperReading reading)) ⌝ }
 {
@@ -75,7 +75,7 @@ fn put_row(rows: &mut [u64], q: usize, reading: Reading)
 }
 
 // The corner numbers of a quad's reading.
-fn put_corners(corners: &mut [f32], q: usize, reading: Reading)
+pub fn put_corners(corners: &mut [f32], q: usize, reading: Reading)
     requires { ⌜ quadSize * q + quadSize ≤ length (now corners) ⌝ }
     ensures { λ _. ⌜ now (corners .exit) ≡ sets (now (corners .entry)) (quadSize * q) (cornersOf (paperReading reading)) ⌝ }
 {

@@ -90,6 +90,10 @@ module _ {ℓ κ} {A : Type ℓ} {B : Type κ} (f : A → List B) (w : ℕ) (wid
       let size : length (flatMap f l) ≡ w * n = length-flat l ∙ ap (λ (k : ℕ). w * k) e in
       drop-at (flatMap f l) (drop (length (flatMap f l)) output) (w * n) size ∙ ap (λ (k : ℕ). drop k output) size
 
+  -- and the parts themselves
+  pub front-left : (l : List A) (output : List B) (n : ℕ) → length l ≡ n → take (w * n) (inFront (flatMap f l) output) ≡ flatMap f l
+  front-left l output n e = take-at (flatMap f l) (drop (length (flatMap f l)) output) (w * n) (length-flat l ∙ ap (λ (k : ℕ). w * k) e)
+
   -- part q written anew
   pub part-set : (l : List A) (output : List B) (q : ℕ) (v : A) → q < length l
       → sets (inFront (flatMap f l) output) (w * q) (f v) ≡ inFront (flatMap f (set l q v)) output

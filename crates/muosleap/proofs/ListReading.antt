@@ -5,10 +5,10 @@ use mathlib.Core.Bool.{Bool, true, false, not, cond}
 use mathlib.Core.List.{List}
 use Prim.Native.Nat.{ℕ}
 use native.Mathlib.Omega.{arith}
-use borrow.Author.Tests.{ltb-true}
+use borrow.Author.Tests.{ltb-true, not-false}
 use lib.Ieee.{Float}
 use lib.ListN.{length}
-use Rattle.refusals.specs.Outcome.{accepted, refused}
+use Rattle.refusals.specs.Outcome.{Outcome, accepted, refused}
 use Rattle.refusals.specs.Pixels.{badFrame}
 use Rattle.refusals.specs.declared.Frame.{Frame}
 use Rattle.tables.specs.Table.{badTable}
@@ -45,6 +45,16 @@ module _ (c : Call) where
 
   pub tested-on : c .test-1 ≡ false → c .test-6 ≡ false → c .test-16 ≡ false → c .read ≡ tested
   tested-on p q r = simp (p, q, r)
+
+  -- what holds of the three refusals and of what is read holds of the call
+  tested-cases : (P : Listing → Type 0) → P (refusing 1) → P (refusing 6) → P (refusing 16) → P (c .read) → P tested
+  tested-cases P p1 p6 p16 p = go (c .test-1) (c .test-6) (c .test-16)
+    where
+      go : (a b d : Bool) → P (cond a (refusing 1) (cond b (refusing 6) (cond d (refusing 16) (c .read))))
+      go true b d = p1
+      go false true d = p6
+      go false false true = p16
+      go false false false = p
 
   -- an accepted call passed all three
   passes : (n : ℕ) → tested .answer ≡ accepted n → (c .test-1 ≡ false) × (c .test-6 ≡ false) × (c .test-16 ≡ false)
@@ -95,7 +105,24 @@ module _ (plane : List ℕ) (frame : Frame) (quads : List Float) (rows : List �
     unfolding decodeQuads listing
     accepts p q r = ap (λ (x : Listing). x .answer) (sym (tested-on (call (badTable family codes) family codes) p q r))
 
-  -- the same by family number
+  -- every answer is 1, 6, 16 or the number of quads
+  abbrev pub OfEach : (Outcome ℕ → Type 0) → Outcome ℕ → Type 0
+  OfEach P answer = P (refused 1) → P (refused 6) → P (refused 16) → P (accepted (quadCount (length quads))) → P answer
+
+  pub answer-cases : (family : Family) (codes : List ℕ) (P : Outcome ℕ → Type 0) → OfEach P (decodeQuads plane frame family codes quads rows corners .answer)
+  unfolding decodeQuads listing
+  answer-cases family codes P p1 p6 p16 p = tested-cases (call (badTable family codes) family codes) (λ x. P (x .answer)) p1 p6 p16 p
+
+  pub answer-cases-in : (number : ℕ) (P : Outcome ℕ → Type 0) → OfEach P (decodeQuadsIn plane frame number quads rows corners .answer)
+  unfolding decodeQuadsIn listing
+  answer-cases-in number P p1 p6 p16 p = tested-cases (call (not (isFamily number)) (familyOf number) (codesOf number)) (λ x. P (x .answer)) p1 p6 p16 p
+
+  -- an accepted call by family number has such a family
+  pub family-known : (number n : ℕ) → decodeQuadsIn plane frame number quads rows corners .answer ≡ accepted n → isFamily number ≡ true
+  unfolding decodeQuadsIn
+  family-known number n e = not-false (isFamily number) (passes (call (not (isFamily number)) (familyOf number) (codesOf number)) n e .1)
+
+  -- and is the call with that family's table
   pub in-is : (number : ℕ) → isFamily number ≡ true
       → decodeQuadsIn plane frame number quads rows corners ≡ decodeQuads plane frame (familyOf number) (codesOf number) quads rows corners
   unfolding decodeQuads decodeQuadsIn

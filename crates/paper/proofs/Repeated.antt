@@ -5,7 +5,6 @@ use mathlib.Core.List.{List}
 use Prim.Native.Nat.{ℕ, _<_}
 use native.Mathlib.Omega.{arith}
 use borrow.Author.Tests.{ltb-true, ne-eqb, not-false}
-use lib.Dec.{ltb}
 use lib.Ieee.{Float}
 use lib.ListN.{length}
 use Rattle.refusals.specs.Outcome.{Outcome, accepted, refused}
@@ -23,9 +22,10 @@ use Rattle.grid.specs.declared.Grid.{Grid}
 use Rattle.reader.specs.Reading.{Tag, reading}
 use Rattle.reader.proofs.Answers.{Answers, reading-answers}
 use Rattle.listing.specs.Repeated.{givesId}
-use Rattle.listing.specs.Listing.{quadCount, badList, Listing, listingOf, listing, rowOf, cornersOf, rowAt}
+use Rattle.listing.specs.Listing.{quadCount, Listing, rowOf, cornersOf, rowAt}
 use Rattle.muosleap.specs.Quad.{decodeQuad, decodeQuadIn}
 use Rattle.muosleap.specs.Quads.{decodeQuads, decodeQuadsIn}
+use Rattle.muosleap.proofs.ListReading.{answer-cases, answer-cases-in, family-known}
 use Rattle.paper.specs.Others.{NoOther}
 use Rattle.paper.specs.Demand3.{Passes, printOrder, ownTurn}
 use Rattle.paper.specs.Sheet.{SheetPainted, Reads}
@@ -38,6 +38,10 @@ use Rattle.paper.proofs.Sheet.{sheets-read}
 pub refused-not : {A : Type 0} (n : ℕ) (a : A) (X : Type 0) → refused n ≡ accepted a → X
 refused-not n a X e = let z : _≡_ {A = ℕ} 0 1 = cc in absurd (omega arith)
 
+-- nor a refusal by another number
+pub other-number : {A : Type 0} (n m : ℕ) → (n ≡ m → ⊥) → _≡_ {A = Outcome A} (refused n) (refused m) → ⊥
+other-number n m h e = h (cc)
+
 -- ---- by family number
 
 module _ (plane : List ℕ) (frame : Frame) (number : ℕ) (quads : List Float) (rows : List ℕ) (corners : List Float) (n i : ℕ) where
@@ -47,36 +51,23 @@ module _ (plane : List ℕ) (frame : Frame) (number : ℕ) (quads : List Float) 
   abbrev RowIn : Type 0
   RowIn = ListedRow (λ j. decodeQuadIn plane frame number (quadAt quads j)) n i (rowAt (result .rows) i) (cornersAt (result .corners) i)
 
-  -- no such family: the call is refused by 1 or by 6
-  no-family : ltb number 5 ≡ false → (f : Bool) → badFrame (length plane) frame ≡ f → result .answer ≡ refused (cond f 1 6)
-  unfolding decodeQuadsIn
-  no-family b true f = simp (f, b)
-  no-family b false f = simp (f, b)
-
   pub row-in : result .answer ≡ accepted n → i < n → RowIn
-  row-in a l = known (ltb number 5) refl
-    where
-      known : (b : Bool) → ltb number 5 ≡ b → RowIn
-      known false b = let f = badFrame (length plane) frame in refused-not (cond f 1 6) n RowIn (sym (no-family b f refl) ∙ a)
-      known true b =
-          let by = demand-3 .by-number number (ltb-true number 5 b) plane frame in
-          let whole = by .1 quads rows corners in
-          let lent = list-says plane frame (familyOf number) (codesOf number) quads rows corners n (sym (ap (λ (x : Listing). x .answer) whole) ∙ a) in
-          subst (λ (x : Listing). ListedRow (λ j. decodeQuadIn plane frame number (quadAt quads j)) n i (rowAt (x .rows) i) (cornersAt (x .corners) i)) (sym whole)
-          (subst (λ (read : ℕ → Outcome Tag). let x = decodeQuads plane frame (familyOf number) (codesOf number) quads rows corners in ListedRow read n i (rowAt (x .rows) i) (cornersAt (x .corners) i))
-          (λ k j. sym (by .0 (quadAt quads j)) k)
-          (listed-row plane frame (familyOf number) (codesOf number) quads rows corners n lent i l))
+  row-in a l =
+      let known = ltb-true number 5 (family-known plane frame quads rows corners number n a) in
+      let by = demand-3 .by-number number known plane frame in
+      let whole = by .1 quads rows corners in
+      let lent = list-says plane frame (familyOf number) (codesOf number) quads rows corners n (sym (ap (λ (x : Listing). x .answer) whole) ∙ a) in
+      subst (λ (x : Listing). ListedRow (λ j. decodeQuadIn plane frame number (quadAt quads j)) n i (rowAt (x .rows) i) (cornersAt (x .corners) i)) (sym whole)
+      (subst (λ (read : ℕ → Outcome Tag). let x = decodeQuads plane frame (familyOf number) (codesOf number) quads rows corners in ListedRow read n i (rowAt (x .rows) i) (cornersAt (x .corners) i))
+      (λ k j. sym (by .0 (quadAt quads j)) k)
+      (listed-row plane frame (familyOf number) (codesOf number) quads rows corners n lent i l))
 
 -- ---- 18 in rows only
 
--- a refusal by another number than 18
-other-number : {A : Type 0} (n : ℕ) → (n ≡ 18 → ⊥) → _≡_ {A = Outcome A} (refused n) (refused 18) → ⊥
-other-number n h e = h (cc)
-
 -- a quad: after 1 and 6 its reading, which is refused by 8 to 13
 past-6 : (one six : Bool) (o : Outcome Tag) → (six ≡ false → o ≡ refused 18 → ⊥) → cond one (refused 1) (cond six (refused 6) o) ≡ refused 18 → ⊥
-past-6 true six o h e = other-number 1 (λ z. omega arith) e
-past-6 false true o h e = other-number 6 (λ z. omega arith) e
+past-6 true six o h e = other-number 1 18 (λ z. omega arith) e
+past-6 false true o h e = other-number 6 18 (λ z. omega arith) e
 past-6 false false o h e = h refl e
 
 no-18 : (plane : List ℕ) (frame : Frame) (family : Family) (codes : List ℕ) (quad : Quad) → badTable family codes ≡ false → reading plane frame family codes quad ≡ refused 18 → ⊥
@@ -93,26 +84,17 @@ one-quad-in plane frame number quad =
     (λ f. no-18 plane frame (familyOf number) (codesOf number) quad (families-pass number (ltb-true number 5 (not-false (isFamily number) f))))
 
 -- a list: after 1, 6 and 16 it is accepted
-past-16 : (one six sixteen : Bool) (rows : List ℕ) (corners : List Float) (read : Listing) (n : ℕ) → read .answer ≡ accepted n
-    → cond one (listingOf (refused 1) rows corners) (cond six (listingOf (refused 6) rows corners) (cond sixteen (listingOf (refused 16) rows corners) read)) .answer ≡ refused 18 → ⊥
-past-16 true six sixteen rows corners read n h e = other-number 1 (λ z. omega arith) e
-past-16 false true sixteen rows corners read n h e = other-number 6 (λ z. omega arith) e
-past-16 false false true rows corners read n h e = other-number 16 (λ z. omega arith) e
-past-16 false false false rows corners read n h e = refused-not 18 n ⊥ (sym e ∙ h)
-
 whole-list : (plane : List ℕ) (frame : Frame) (family : Family) (codes : List ℕ) (quads : List Float) (rows : List ℕ) (corners : List Float)
     → decodeQuads plane frame family codes quads rows corners .answer ≡ refused 18 → ⊥
-unfolding decodeQuads listing
 whole-list plane frame family codes quads rows corners =
-    past-16 (badFrame (length plane) frame) (badTable family codes) (badList (length quads) (length rows) (length corners)) rows corners
-    (listing plane frame family codes quads rows corners) (quadCount (length quads)) refl
+    answer-cases plane frame quads rows corners family codes (λ o. o ≡ refused 18 → ⊥)
+    (other-number 1 18 (λ z. omega arith)) (other-number 6 18 (λ z. omega arith)) (other-number 16 18 (λ z. omega arith)) (λ e. refused-not 18 (quadCount (length quads)) ⊥ (sym e))
 
 whole-list-in : (plane : List ℕ) (frame : Frame) (number : ℕ) (quads : List Float) (rows : List ℕ) (corners : List Float)
     → decodeQuadsIn plane frame number quads rows corners .answer ≡ refused 18 → ⊥
-unfolding decodeQuadsIn listing
 whole-list-in plane frame number quads rows corners =
-    past-16 (badFrame (length plane) frame) (not (isFamily number)) (badList (length quads) (length rows) (length corners)) rows corners
-    (listing plane frame (familyOf number) (codesOf number) quads rows corners) (quadCount (length quads)) refl
+    answer-cases-in plane frame quads rows corners number (λ o. o ≡ refused 18 → ⊥)
+    (other-number 1 18 (λ z. omega arith)) (other-number 6 18 (λ z. omega arith)) (other-number 16 18 (λ z. omega arith)) (λ e. refused-not 18 (quadCount (length quads)) ⊥ (sym e))
 
 -- ---- a sheet
 

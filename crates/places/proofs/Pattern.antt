@@ -48,6 +48,13 @@ abbrev amount : ℕ → ℕ → ℕ
 amount zero t = t * 2 ^ 0
 amount (suc k) t = (2 ^ 23 + t) * 2 ^ k
 
+-- below 16384
+amount-lt : (x t : ℕ) → x ≤ 140 → t < 2 ^ 23 → amount x t < 16384 * 2 ^ 149
+amount-lt zero t h l = lt-of-lt-of-le (shl-lt 24 0 (omega arith)) (lit≤ tt)
+amount-lt (suc k) t h l =
+    let q : 2 ^ 23 + t < 2 ^ 24 = omega arith in
+    lt-of-lt-of-le (lt-of-lt-of-le (shl-lt 24 k q) (pow-mono {j = 163} (omega arith))) (lit≤ tt)
+
 -- the code's two answers: the exponent's field x leaves d places to be cut
 module _ (g d t : ℕ) (g-le : g ≤ 10) (t-lt : t < 2 ^ 23) where
   none : (x : ℕ) → g + x + d ≡ 150 → 30 < d → nearest (2 ^ g * amount x t) (2 ^ 149) ≡ 0
@@ -120,6 +127,11 @@ module _ (b : ℕ) where
         subst (λ (x : Float). HasValue x sign (amount field (b % 8388608)) (2 ^ 149)) (sym of-bits)
         (fields sign (b % 8388608) (omega arith) field (omega arith))
 
+    pattern-good : badCoordinate (ofBits binary32 b) ≡ false
+    pattern-good =
+        value-bad (ofBits binary32 b) sign (amount field (b % 8388608)) (2 ^ 149) (pow-pos 149) value
+        ∙ lt-leb (16384 * 2 ^ 149) (amount field (b % 8388608)) (amount-lt field (b % 8388608) near (omega arith))
+
     nearest-is : (k : ℕ) → nearestTimes k (ofBits binary32 b) ≡ nearest (k * amount field (b % 8388608)) (2 ^ 149)
     nearest-is k = nearest-value k (ofBits binary32 b) sign (amount field (b % 8388608)) (2 ^ 149) (pow-pos 149) value
 
@@ -147,6 +159,14 @@ module _ (b : ℕ) where
     pattern-positive h =
         pixel-is ∙ ap (λ (s : Bool). toPixel (signed s (amount field (b % 8388608))) (2 ^ 149)) (lt-leb 2147483648 b h)
         ∙ ap (λ (n : ℕ). nearest n (2 ^ 149)) (sym (one-mul (amount field (b % 8388608)))) ∙ sym (nearest-is 1)
+
+-- refusal 8 by the exponent's field
+pub pattern-bad : (b : ℕ) → badCoordinate (ofBits binary32 b) ≡ leb 141 (field b)
+pattern-bad b = go (leb 141 (field b)) refl
+  where
+    go : (large : Bool) → leb 141 (field b) ≡ large → badCoordinate (ofBits binary32 b) ≡ large
+    go true e = ap badCoordinate (of-bits b) ∙ large-bad (sign b) (b % 8388608) (omega arith) (field b) (leb-true 141 (field b) e) (omega arith)
+    go false e = pattern-good b (omega (arith, leb-false 141 (field b) e))
 
 -- ---- a float that refusal 8 lets through
 

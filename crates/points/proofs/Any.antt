@@ -5,7 +5,7 @@ use Prim.Native.Nat.{ℕ, zero, suc}
 use Rattle.lists.proofs.Bools.{or-left, or-right}
 use Rattle.points.specs.declared.Point.{Point}
 use Rattle.points.specs.declared.Quad.{Quad}
-use Rattle.points.specs.Turned.{turnedLeft, anyCorner}
+use Rattle.points.specs.Turned.{turnedLeft, answerCorners, anyCorner}
 
 around : (a b c d : Bool) → b || c || d || a ≡ a || b || c || d
 around a b c d = or-comm (b || c || d) a ∙ sym (or-assoc a (b || c) d) ∙ ap (λ (t : Bool). t || d) (sym (or-assoc a b c))
@@ -17,6 +17,17 @@ any-turned test zero q = refl
 any-turned test (suc s) q =
     let p = turnedLeft s q in
     around (test (p .q0)) (test (p .q1)) (test (p .q2)) (test (p .q3)) ∙ any-turned test s q
+
+-- nor on the order in which an answer has them
+backward : (a b c d : Bool) → d || c || b || a ≡ a || b || c || d
+backward a b c d =
+    or-comm (d || c || b) a ∙ ap (λ (t : Bool). a || t) (or-comm (d || c) b ∙ ap (λ (t : Bool). b || t) (or-comm d c))
+    ∙ sym (or-assoc a b (c || d)) ∙ sym (or-assoc (a || b) c d)
+
+pub any-answered : (test : Point → Bool) (turn : ℕ) (q : Quad) → anyCorner test (answerCorners q turn) ≡ anyCorner test q
+any-answered test turn q =
+    let p = turnedLeft turn q in
+    backward (test (p .q0)) (test (p .q1)) (test (p .q2)) (test (p .q3)) ∙ any-turned test turn q
 
 -- no corner passes it
 pub record NoCorner (test : Point → Bool) (q : Quad) : Type 0 where

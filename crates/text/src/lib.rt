@@ -1,4 +1,4 @@
-// Text as bytes, put into a buffer piece by piece: each function gives the place after what it has put.
+// Bytes, of a text or of a report, put into a buffer piece by piece: each function gives the place after what it has put.
 ghost use mathlib.Core.List.{[], _∷_};
 ghost use Prim.Native.Nat.{_+_, _≤_, _<_};
 ghost use lib.ListN.{length};

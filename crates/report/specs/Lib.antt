@@ -1,0 +1,5 @@
+pub mod Reading
+pub mod Bytes
+pub mod Rows
+pub mod Report
+pub mod Steps

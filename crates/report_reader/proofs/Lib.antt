@@ -1,0 +1,5 @@
+pub mod Numbers
+pub mod Pieces
+pub mod Stands
+pub mod Whole
+pub mod Put

@@ -1,0 +1,4 @@
+pub mod Row
+pub mod Rows
+pub mod Pass
+pub mod Pieces
