@@ -1,5 +1,5 @@
 /*
- * Muosleap: from a picture to clusters, and from a quad to a tag. Link with libmuosleap_c.a.
+ * Muosleap: from a picture to clusters, from a quad to a tag, and from a list's reading to a report and back. Link with libmuosleap_c.a.
  *
  * What each function answers
  *   0 where the call is accepted, and else the number of a refusal. A function tests its refusals in the order in which its
@@ -25,6 +25,13 @@
  *   - A quad is eight numbers: x0 y0 x1 y1 x2 y2 x3 y3. So are the corners of a tag.
  *   - An output that is longer than what is written keeps the rest of its elements.
  *   - A word of edge² bits is a square of modules; its highest bit is the first module.
+ *
+ * Readings and reports
+ *   A reading is the rows of a list, four numbers each (refusal, id, turn, differing modules), and eight corner numbers a row. A row
+ *   without a refusal has an id below 1,024 which no other such row has, a turn of at most 3, at most 63 differing modules, and corners
+ *   that refusal 8 lets through. A refused row has 8 to 13 or 18, and every other bit of it and of its corners is zero. What
+ *   muosleap_try_decode_quads and muosleap_try_decode_quads_in write is always a reading. A report is a reading as bytes
+ *   (docs/REPORTS.md): one reading has one report, and one report one reading.
  *
  * Families
  *   By number: 0 T16H5, 1 T25H7, 2 T25H9, 3 T36H11, 4 T36H11B1. Else a table is lent: edge (modules a side inside the border),
@@ -55,6 +62,9 @@
  *   17  a sheet's side of 0 or above 32 tags, a gap outside 1..16 cells, more tags than codes, or a grid that does not end at
  *       least one pixel before the right and lower edges
  *   18  another quad of the list gives the same id
+ *   19  more than 1,024 whole rows, in a report by its first two bytes, or an output too short
+ *   20  rows that are not whole, are no such reading or have not eight corner numbers each, or bytes that none writes, spare bytes
+ *       included
  */
 #ifndef MUOSLEAP_H
 #define MUOSLEAP_H
@@ -144,6 +154,27 @@ uint32_t muosleap_try_decode_quads(const uint8_t *plane, size_t plane_count, siz
 uint32_t muosleap_try_decode_quads_in(const uint8_t *plane, size_t plane_count, size_t width, size_t height, size_t pitch,
                                       uint8_t family, const float *quads, size_t quads_count, uint64_t *rows, size_t rows_count,
                                       float *corners, size_t corners_count);
+
+/*
+ * The report of a reading: its bytes, for a file or a line, which muosleap_read_report reads again.
+ * Refusals: 19 (more than 1,024 whole rows), 20, 19 (an output shorter than the report).
+ * rows, corners: the reading, with their exact counts, 4 and 8 times the number of rows; no row at all is a reading. report: its bytes.
+ * A report has two bytes, and for each row 2 where it is refused and 35 to 37 where not, so 2 + 37 bytes a row are always enough; bytes
+ * beyond it stay as they were. written: how many bytes the report has.
+ */
+uint32_t muosleap_write_report(const uint64_t *rows, size_t rows_count, const float *corners, size_t corners_count,
+                               uint8_t *report, size_t report_count, size_t *written);
+
+/*
+ * The reading of a report, every bit of its corners as it was written. Only what muosleap_write_report writes is taken.
+ * Refusals: 20 (fewer than two bytes), 19 (the number of rows in the first two bytes, low byte first, is above 1,024), 20, 19 (rows or
+ * corners are too short).
+ * report: its bytes, with their exact count; a byte more or less is 20. rows: four numbers a row, corners: eight numbers a row, as of
+ * muosleap_try_decode_quads; 4,096 and 8,192 numbers are always enough, and numbers beyond the reading stay as they were. count: how many
+ * rows there are.
+ */
+uint32_t muosleap_read_report(const uint8_t *report, size_t report_count, uint64_t *rows, size_t rows_count, float *corners,
+                              size_t corners_count, size_t *count);
 
 /*
  * Fills an 8-bit plane with light and draws one tag into it, its upper left pixel at (x, y), `cell` pixels a module: dark borders, and

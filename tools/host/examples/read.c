@@ -1,5 +1,5 @@
-/* Paints a tag, reads it from all four starts, paints and reads a sheet, and finds the saddle points of a small picture, with the
-   C interface of Muosleap.
+/* Paints a tag, reads it from all four starts, paints and reads a sheet, writes the reading as a report and reads that, and finds the
+   saddle points of a small picture, with the C interface of Muosleap.
 
    Every buffer is initialized before it is lent, outputs too, as the header asks. From the root of the repository, after
    `rt staticlib muosleap_c`:
@@ -9,6 +9,7 @@
 #include <stdint.h>
 #include <stdio.h>
 #include <stdlib.h>
+#include <string.h>
 
 #include "muosleap.h"
 
@@ -45,6 +46,21 @@ static void read_painted_tag(void)
     }
 }
 
+/* Writes a list's reading as a report, as into a file, reads it again, and compares: the same rows, and the same bits of corners. */
+static void report_and_read(const uint64_t rows[4 * TAGS], const float corners[8 * TAGS])
+{
+    uint8_t report[2 + 37 * TAGS] = {0};
+    uint64_t rows_again[4 * TAGS] = {0};
+    float corners_again[8 * TAGS] = {0};
+    size_t written = 0, count = 0;
+
+    accepted("write", muosleap_write_report(rows, 4 * TAGS, corners, 8 * TAGS, report, sizeof report, &written));
+    accepted("reread", muosleap_read_report(report, written, rows_again, 4 * TAGS, corners_again, 8 * TAGS, &count));
+    printf("report of the sheet: %zu bytes, read again as %zu rows, %s\n", written, count,
+           memcmp(rows, rows_again, sizeof rows_again) == 0 && memcmp(corners, corners_again, sizeof corners_again) == 0
+               ? "the same" : "others");
+}
+
 /* Paints a sheet of two rows of three tags, 4 pixels a module and a gap of 2 modules between tags, and reads its quads as one list.
    Tag 0 is lower left; numbers rise along a row and then upward. */
 static void read_painted_sheet(void)
@@ -61,6 +77,7 @@ static void read_painted_sheet(void)
     for (int k = 0; k < TAGS; k++)
         printf("quad %d of the sheet: refusal %u, tag %u, upper left (%.1f, %.1f)\n", k, (unsigned)rows[4 * k],
                (unsigned)rows[4 * k + 1], quads[8 * k], quads[8 * k + 1]);
+    report_and_read(rows, corners);
 }
 
 /* Four squares that meet in one point: picture to clusters. */

@@ -82,6 +82,14 @@ crossing! {
         plane: &[u8], width: usize, height: usize, pitch: usize, family: u8, quads: &[f32], rows: &mut [u64], corners: &mut [f32]
     );
 
+    /// The report of a reading, which is rows of four numbers and eight corner numbers each; `written` is how many bytes it has.
+    /// Refusals 19 for the number of rows, 20, 19 for the output.
+    fn write_report(rows: &[u64], corners: &[f32], report: &mut [u8], written: &mut usize);
+
+    /// The reading of a report; `count` is how many rows it has. Refusals 20 where there are no two bytes, 19 for the number of rows,
+    /// 20, 19 for either output.
+    fn read_report(report: &[u8], rows: &mut [u64], corners: &mut [f32], count: &mut usize);
+
     /// Fills the plane with light and paints a tag; filler stays as it was. Refusals 1, 6, 14.
     fn paint_tag(
         plane: &mut [u8], width: usize, height: usize, pitch: usize, edge: u8, border: u8, word: u64, x: usize, y: usize,

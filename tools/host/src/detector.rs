@@ -350,9 +350,11 @@ fn listed(
     let mut rows = vec![[0u64; 4]; quads.len()];
     let mut corners = vec![[0f32; 8]; quads.len()];
     accepted(read(numbers.as_flattened(), rows.as_flattened_mut(), corners.as_flattened_mut()))?;
-    let read = |([refusal, id, turn, differing], corners): ([u64; 4], [f32; 8])| {
-        accepted(refusal as u32)?;
-        Ok(Tag { id: id as usize, turn: turn as u8, differing: differing as u8, corners: corners.into() })
-    };
-    Ok(rows.into_iter().zip(corners).map(read).collect())
+    Ok(rows.into_iter().zip(corners).map(said).collect())
+}
+
+/// What a row of numbers and its corner numbers say: a tag, or a refusal.
+pub(crate) fn said(([refusal, id, turn, differing], corners): ([u64; 4], [f32; 8])) -> Result<Tag, Refusal> {
+    accepted(refusal as u32)?;
+    Ok(Tag { id: id as usize, turn: turn as u8, differing: differing as u8, corners: corners.into() })
 }

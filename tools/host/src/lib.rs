@@ -9,6 +9,7 @@
 //! - [`detector`]: words, levels and quads, by [`Family`] or by a [`Table`] of your own; how a tag's [wear](detector#wear) shows; and
 //!   what comes of [the same number twice](detector#the-same-number-twice).
 //! - [`image_util`]: blur, response, threshold, clusters and their centres.
+//! - [`reports`]: a list reading as bytes, for a file or a line, and read again.
 //! - [`painter`]: paints a tag, or a sheet of tags. [`board`]: the squares that an aprilgrid board has beside its tags.
 //! - [`files`]: pictures as PGM and PNG.
 //! - [`c`]: the C interface as it crosses, for hosts that keep their own buffers.
@@ -41,6 +42,7 @@ pub mod painter;
 mod picture;
 mod points;
 mod refusal;
+pub mod reports;
 mod tables;
 
 pub use detector::{Found, NotFound, Tag};
@@ -49,9 +51,15 @@ pub use painter::{Grid, Print};
 pub use picture::Picture;
 pub use points::{Point, Quad, Shape};
 pub use refusal::{NoRefusal, REFUSALS, Refusal};
+pub use reports::Report;
 pub use tables::{FAMILIES, Family, Table};
 
 /// The README's example compiles.
 #[cfg(doctest)]
 #[doc = include_str!("../README.md")]
 struct Readme;
+
+/// So does that of the page on reports.
+#[cfg(doctest)]
+#[doc = include_str!("../../../docs/REPORTS.md")]
+struct Reports;

@@ -110,6 +110,13 @@ refusals! {
     18 RepeatedId:
         "another quad of the list gives the same id",
         "two sheets overlap, or one tag was found twice: leave one sheet on the belt, or mend the quad search";
+    19 ReportLength:
+        "more than 1,024 whole rows, in a report by its first two bytes, or an output too short",
+        "write at most 1,024 rows in a report, and lend outputs that are long enough; a file whose first two bytes say more is no report";
+    20 BadReport:
+        "rows that are not whole, are no such reading or have not eight corner numbers each, or bytes that none writes, spare bytes \
+         included",
+        "write rows and corners as the list reader gave them; a file that is refused is damaged or no report: copy it again";
 }
 
 impl Refusal {

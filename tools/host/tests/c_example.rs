@@ -14,6 +14,7 @@ quad 2 of the sheet: refusal 0, tag 2, upper left (105.5, 57.5)
 quad 3 of the sheet: refusal 0, tag 3, upper left (9.5, 9.5)
 quad 4 of the sheet: refusal 0, tag 4, upper left (57.5, 9.5)
 quad 5 of the sheet: refusal 0, tag 5, upper left (105.5, 9.5)
+report of the sheet: 212 bytes, read again as 6 rows, the same
 saddle point at (15.5, 15.5), from 12 samples
 ";
 

@@ -1,6 +1,7 @@
 //! The demo: its table shows how many modules were misprinted, and of its command line what it does not know is an error, and then
 //! nothing is written.
 
+use muosleap::{Refusal, Report};
 use std::ffi::OsStr;
 use std::fs;
 use std::path::{Path, PathBuf};
@@ -37,6 +38,9 @@ fn a_bad_option_is_an_error() {
         ("--pitch wide", "--pitch takes a number from 1920 to 8192, not wide"),
         ("out --pitch", "--pitch takes a number from 1920 to 8192"),
         ("--pitch 2048 --pitch 2048", "--pitch is one too many"),
+        ("out --report", "--report takes the name of a file"),
+        ("--report --noise 3", "--report takes the name of a file"),
+        ("--report a --report a", "--report is one too many"),
         ("--smear=14", "there is no option --smear=14"),
         ("--blur 3", "there is no option --blur"),
         ("out --help", "there is no option --help"),
@@ -45,12 +49,15 @@ fn a_bad_option_is_an_error() {
         ("--noise 3 out --noise 3", "--noise is one too many"),
     ] {
         let (folder, output) = demo("bad", &words.split(' ').map(OsStr::new).collect::<Vec<_>>());
-        let expected = format!("demo: {wrong}\nusage: demo [FOLDER] [--noise LEVELS] [--smear TAG] [--pitch BYTES]\n");
+        let expected =
+            format!("demo: {wrong}\nusage: demo [FOLDER] [--noise LEVELS] [--smear TAG] [--pitch BYTES] [--report FILE]\n");
         assert_eq!(String::from_utf8_lossy(&output.stderr), expected);
         assert_eq!((output.status.code(), output.stdout.len()), (Some(2), 0), "{words}");
         assert_eq!(fs::read_dir(folder).unwrap().count(), 0, "{words} wrote something");
     }
-    assert_eq!(demo("bad", &[OsStr::new("")]).1.status.code(), Some(2));
+    for words in [&[""][..], &["--report", ""]] {
+        assert_eq!(demo("bad", &words.iter().map(OsStr::new).collect::<Vec<_>>()).1.status.code(), Some(2));
+    }
 }
 
 /// The table's columns of painted tags, tags as they were read, and differing modules.
@@ -112,6 +119,51 @@ fn padded_lines_change_nothing() {
         assert!(padded.contains(&line), "{padded}");
         assert_eq!(told(&padded), told_packed);
         assert!(pictures_padded == pictures, "other pictures at a pitch of {pitch} bytes");
+    }
+}
+
+/// With a report the demo says two lines more, and draws the same.
+#[test]
+fn a_report_is_written_and_read_back() {
+    let run = |name: &str, words: &[&str]| {
+        let words = [&["out", "--smear", "14"], words].concat();
+        let (folder, output) = demo(name, &words.iter().map(OsStr::new).collect::<Vec<_>>());
+        assert!(output.status.success() && output.stderr.is_empty(), "{words:?}");
+        (folder, String::from_utf8(output.stdout).unwrap())
+    };
+    let ((without, plain), (with, told)) = (run("unreported", &[]), run("reported", &["--report", "the sheet.report"]));
+    let lines = |told: &str| told.lines().filter(|line| !line.contains(" ms")).map(String::from).collect::<Vec<_>>();
+    let report = [
+        "Written: the sheet.report, the list from start 0 as a report: 36 rows in 1231 bytes",
+        "Read back from there: the same reading, every bit of its corners included. The program `report` prints it",
+    ];
+    assert_eq!(lines(&told), [lines(&plain), report.map(String::from).to_vec()].concat());
+    for file in ["sheet.pgm", "marked.pgm", "marked.png"] {
+        assert!(
+            [&without, &with]
+                .map(|folder| fs::read(folder.join("out").join(file)).unwrap())
+                .windows(2)
+                .all(|two| two[0] == two[1])
+        );
+    }
+    let report = Report::read(fs::read(with.join("the sheet.report")).unwrap()).unwrap();
+    for (id, row) in report.rows().iter().enumerate() {
+        match row {
+            Ok(tag) => assert_eq!((tag.id, tag.turn), (id, 0)),
+            Err(refusal) => assert_eq!((*refusal, id), (Refusal::UnsureModules, 14)),
+        }
+    }
+    assert_eq!((report.rows()[7].unwrap().differing, report.rows()[22].unwrap().differing), (1, 2));
+}
+
+#[test]
+fn a_report_that_cannot_be_written_is_an_error() {
+    for (file, wrong) in
+        [("no/folder/a", "cannot write no/folder/a: "), ("/dev/null", "/dev/null is not what was written: refusal 20: ")]
+    {
+        let (_, output) = demo("no-report", &["out", "--report", file].map(OsStr::new));
+        let said = String::from_utf8(output.stderr).unwrap();
+        assert!(output.status.code() == Some(1) && said.starts_with(&format!("demo: {wrong}")), "{said}");
     }
 }
 

@@ -3,7 +3,7 @@
 use muosleap::detector::{bit_code, rotate_bits};
 use muosleap::image_util::{Saddles, gaussian_blur_f32, hessian_response, init_saddle_clusters, kernel, response_threshold};
 use muosleap::painter::paint_tag;
-use muosleap::{Cluster, FAMILIES, Family, Grid, Picture, Print, Quad, REFUSALS, Refusal, Shape, Table};
+use muosleap::{Cluster, FAMILIES, Family, Grid, Picture, Print, Quad, REFUSALS, Refusal, Report, Shape, Table};
 
 const PRINT: Print = Print { x: 1, y: 1, cell: 2, turn: 0, light: 200, dark: 20 };
 const GRID: Grid = Grid { rows: 1, columns: 1, gap: 1 };
@@ -56,6 +56,8 @@ fn every_refusal_is_met() {
         Family::T16H5.try_decode_quads(&picture(&plane), &vec![tag; 1_025]).map(|_| ()),
         Family::T16H5.paint_sheet(&mut Picture::packed([0; 400], 20, 20), &Grid { gap: 0, ..GRID }, &PRINT).map(|_| ()),
         Family::T16H5.try_decode_quads(&picture(&plane), &[tag, tag.started(1)]).unwrap()[0].map(|_| ()),
+        Report::read(&[1, 4][..]).map(|_| ()),
+        Report::write(&[Err(Refusal::BadReport)]).map(|_| ()),
     ];
     let all: Vec<_> = REFUSALS.iter().map(|&refusal| Err(refusal)).collect();
     assert_eq!(met[..], all);

@@ -113,6 +113,7 @@ pub fn main() {
         quads(&mut calls);
         frames(&mut calls);
         lists(&mut calls);
+        reports(&mut calls);
         painter(&mut calls);
         sheets(&mut calls);
         blur(&mut calls);
@@ -293,6 +294,52 @@ fn lists(calls: &mut Calls) {
         for (rows, corners) in [(four - 1, eight), (3 * quads, eight), (0, eight), (four, eight - 1), (four, 0)] {
             list(calls, 16, [8 * quads, rows, corners], 0);
         }
+    }
+}
+
+/// Three rows, of which the second is refused, their corners, and their report of 76 bytes.
+fn report() -> (Vec<u64>, Vec<f32>, Vec<u8>) {
+    let rows = vec![0, 7, 0, 0, 12, 0, 0, 0, 0, 300, 3, 2];
+    let corners: Vec<f32> = (0..24).map(|k| if (8..16).contains(&k) { 0.0 } else { k as f32 - 0.5 }).collect();
+    let (mut report, mut written) = (vec![0; 80], 0);
+    assert_eq!((c::write_report(&rows, &corners, &mut report, &mut written), written), (0, 76));
+    report.truncate(written);
+    (rows, corners, report)
+}
+
+fn reports(calls: &mut Calls) {
+    let (rows, corners, report) = report();
+    let write = |calls: &mut Calls, number: u32, rows: &[u64], corners: &[f32], room: usize| {
+        let lent = (calls.bytes(room), calls.numbers.next() as usize);
+        calls.refuse("write_report", number, lent, |(report, written)| c::write_report(rows, corners, report, written));
+    };
+    write(calls, 19, &vec![18; 4_100], &corners, 80);
+    (0..76).for_each(|room| write(calls, 19, &rows, &corners, room));
+    (1..12).filter(|count| count % 4 != 0).for_each(|count| write(calls, 20, &rows[..count], &corners[..count / 4 * 8], 80));
+    (0..24).for_each(|count| write(calls, 20, &rows, &corners[..count], 80));
+    for (place, number) in [(0, 7), (1, 1_024), (2, 4), (3, 64), (4, 14), (5, 1), (6, 1), (7, 1), (9, 7), (9, u64::MAX)] {
+        let mut rows = rows.clone();
+        rows[place] = number;
+        write(calls, 20, &rows, &corners, 80);
+    }
+    for (place, corner) in [(0, f32::NAN), (7, 16_384.0), (16, f32::NEG_INFINITY), (8, -0.0), (15, 1.0e-45)] {
+        let mut corners = corners.clone();
+        corners[place] = corner;
+        write(calls, 20, &rows, &corners, 80);
+    }
+    let read = |calls: &mut Calls, number: u32, report: &[u8], rooms: [usize; 2]| {
+        let lent = (calls.longs(rooms[0]), calls.floats(rooms[1]), calls.numbers.next() as usize);
+        calls.refuse("read_report", number, lent, |(rows, corners, count)| c::read_report(report, rows, corners, count));
+    };
+    (0..76).for_each(|count| read(calls, 20, &report[..count], [20, 30]));
+    read(calls, 20, &[&report[..], &[16]].concat(), [20, 30]);
+    read(calls, 19, &[&[1, 4], &report[2..]].concat(), [20, 30]);
+    (0..12).for_each(|room| read(calls, 19, &report, [room, 30]));
+    (0..24).for_each(|room| read(calls, 19, &report, [20, room]));
+    for (place, byte) in [(2, 10), (4, 4), (8, 0x7f), (38, 7), (42, 0), (42, 4), (43, 0), (43, 64)] {
+        let mut report = report.clone();
+        report[place] = byte;
+        read(calls, 20, &report, [20, 30]);
     }
 }
 
@@ -477,7 +524,7 @@ fn centers(calls: &mut Calls) {
     }
 }
 
-/// Longer outputs than a list or the clusters need: what lies beyond stays, and a refused row is zero but for its number.
+/// Longer outputs than a list, the clusters or a report need: what lies beyond stays, and a refused row is zero but for its number.
 fn beyond_the_answer(calls: &mut Calls) -> u64 {
     let bad = bad_quads();
     let mut accepted = 0;
@@ -503,7 +550,18 @@ fn beyond_the_answer(calls: &mut Calls) -> u64 {
         assert_eq!(total, 2);
         assert_eq!(rows_after[..written], [1, 2, 2, 3, 1, 1][..written]);
         assert_eq!(rows_after[written..], rows[written..]);
-        accepted += 2;
+
+        let (rows, corners, report) = report();
+        let (longer, mut written, mut count) = (calls.bytes(report.len() + extra), 0, 0);
+        let mut after = longer.clone();
+        assert_eq!((c::write_report(&rows, &corners, &mut after, &mut written), written), (0, report.len()));
+        assert!(after == [&report, &longer[written..]].concat());
+        let (longer, corners_longer) = (calls.longs(rows.len() + extra), calls.floats(corners.len() + extra));
+        let (mut after, mut corners_after) = (longer.clone(), corners_longer.clone());
+        assert_eq!((c::read_report(&report, &mut after, &mut corners_after, &mut count), count), (0, 3));
+        assert_eq!(after, [&rows, &longer[rows.len()..]].concat());
+        assert_eq!(corners_after.bits(), [&corners, &corners_longer[corners.len()..]].concat().bits());
+        accepted += 4;
     }
     accepted
 }

@@ -1,11 +1,12 @@
 //! The demo: paints a sheet of tags on a picture of camera size, finds its corners, reads every tag from all four starts, and
-//! writes a table and pictures.
+//! writes a table, pictures, and where it is asked to a report.
 
 mod camera;
 mod drawing;
 #[path = "../shared/number.rs"]
 mod number;
 mod options;
+mod reporting;
 
 use camera::Camera;
 use muosleap::image_util::{Saddles, kernel, to_unit};
@@ -47,6 +48,9 @@ fn run(options: &Options) -> Result<(), Box<dyn Error>> {
     let drawing = drawing::draw(&camera, &saddles, &found.quads, &found.rows);
     let folder = &options.folder;
     drawing.write(&camera, folder).map_err(|error| format!("cannot write to {}: {error}", folder.display()))?;
+    if let Some(file) = &options.report {
+        reporting::write(&found.rows, file)?;
+    }
     Ok(())
 }
 

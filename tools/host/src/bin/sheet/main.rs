@@ -1,14 +1,17 @@
 //! The sheet printer: paints a sheet of tags, reads every tag of it, and writes it as a file that is ready for printing.
 
+#[path = "../shared/counted.rs"]
+mod counted;
 #[path = "../shared/number.rs"]
 mod number;
 mod options;
 mod report;
 
+use counted::counted;
 use muosleap::files::{pgm, png};
 use muosleap::{Picture, Quad, Refusal, Shape, Table, Tag};
 use options::{Format, Options, Tags, USAGE};
-use report::{counted, report};
+use report::report;
 use std::fs::{self, File};
 use std::io::{self, Write};
 use std::path::Path;

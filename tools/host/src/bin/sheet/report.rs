@@ -1,5 +1,6 @@
 //! What the printer says about the sheet that it has written.
 
+use crate::counted::counted;
 use crate::options::{Options, Tags};
 use muosleap::{Shape, Table};
 
@@ -34,9 +35,4 @@ Printed at {dpi} dpi, not scaled: {:.1} x {:.1} mm in all, each tag {tag:.2} mm 
         apart(grid.columns, "Along a row", "left"),
         apart(grid.rows, "From row to row", "lower")
     )
-}
-
-/// A number of things: 1 tag, 2 tags.
-pub fn counted(number: usize, thing: &str) -> String {
-    format!("{number} {thing}{}", if number == 1 { "" } else { "s" })
 }

@@ -10,6 +10,8 @@ mod painting;
 mod planes;
 #[cfg(original)]
 mod report;
+#[cfg(original)]
+mod reporting;
 
 #[cfg(not(original))]
 fn main() {
@@ -23,6 +25,7 @@ fn main() {
     report::table("Words", WORDS, sides, &codes::words());
     report::table("Levels and quads", QUADS, sides, &codes::quads());
     report::table("Padded lines", PADDED, ["without filler", "pitch 2,048"], &codes::padded());
+    report::table("Reports", REPORTS, ["plain Rust", "Muosleap"], &reporting::reports());
     report::table("Likeness check", LIKENESS, sides, &codes::likeness());
     report::table("Painting a tag", PAINTING, ["plain fill", "Muosleap"], &painting::tags());
     report::table("Painting a sheet", SHEETS, ["two plain fills", "Muosleap"], &painting::sheets());
@@ -52,6 +55,10 @@ Muosleap's readings include the corner tests and the places. In the row of `bit_
 #[cfg(original)]
 const PADDED: &str = "A plane of 1920 × 1080 whose lines begin 2,048 bytes after one another, (noise as filler in the plane that is read), against the same plane without filler: \
 the quads and the print of the other tables, our side alone. The last column is below 1 where filler costs time.";
+
+#[cfg(original)]
+const REPORTS: &str = "The original has no reports. The left column is a writer and a reader of the same format by hand in plain Rust, with the same \
+tests, which has to leave the same bytes and numbers (compare/src/bin/bench/reporting.rs).";
 
 #[cfg(original)]
 const LIKENESS: &str = "The original has no such check. The tables pass it, which is its longest way.";
