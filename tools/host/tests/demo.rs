@@ -17,37 +17,40 @@ fn demo(name: &str, words: &[&OsStr]) -> (PathBuf, Output) {
     (folder, output)
 }
 
+/// Words that the demo does not take, and what it says of them.
+const BAD_OPTIONS: [(&str, &str); 27] = [
+    ("--smear 99", "--smear takes a number from 0 to 35, not 99"),
+    ("--smear 36", "--smear takes a number from 0 to 35, not 36"),
+    ("--smear", "--smear takes a number from 0 to 35"),
+    ("--smear -1", "--smear takes a number from 0 to 35, not -1"),
+    ("--smear seven", "--smear takes a number from 0 to 35, not seven"),
+    ("--smear --noise 3", "--smear takes a number from 0 to 35, not --noise"),
+    ("--noise 256", "--noise takes a number from 0 to 255, not 256"),
+    ("--noise 99999999999999999999", "--noise takes a number from 0 to 255, not 99999999999999999999"),
+    ("out --noise", "--noise takes a number from 0 to 255"),
+    ("--noise 2.5", "--noise takes a number from 0 to 255, not 2.5"),
+    ("--pitch 1919", "--pitch takes a number from 1920 to 8192, not 1919"),
+    ("--pitch 8193", "--pitch takes a number from 1920 to 8192, not 8193"),
+    ("--pitch 0", "--pitch takes a number from 1920 to 8192, not 0"),
+    ("--pitch -2048", "--pitch takes a number from 1920 to 8192, not -2048"),
+    ("--pitch 18446744073709553664", "--pitch takes a number from 1920 to 8192, not 18446744073709553664"),
+    ("--pitch wide", "--pitch takes a number from 1920 to 8192, not wide"),
+    ("out --pitch", "--pitch takes a number from 1920 to 8192"),
+    ("--pitch 2048 --pitch 2048", "--pitch is one too many"),
+    ("out --report", "--report takes the name of a file"),
+    ("--report --noise 3", "--report takes the name of a file"),
+    ("--report a --report a", "--report is one too many"),
+    ("--smear=14", "there is no option --smear=14"),
+    ("--blur 3", "there is no option --blur"),
+    ("out --help", "there is no option --help"),
+    ("-", "there is no option -"),
+    ("out more", "more is one too many"),
+    ("--noise 3 out --noise 3", "--noise is one too many"),
+];
+
 #[test]
 fn a_bad_option_is_an_error() {
-    for (words, wrong) in [
-        ("--smear 99", "--smear takes a number from 0 to 35, not 99"),
-        ("--smear 36", "--smear takes a number from 0 to 35, not 36"),
-        ("--smear", "--smear takes a number from 0 to 35"),
-        ("--smear -1", "--smear takes a number from 0 to 35, not -1"),
-        ("--smear seven", "--smear takes a number from 0 to 35, not seven"),
-        ("--smear --noise 3", "--smear takes a number from 0 to 35, not --noise"),
-        ("--noise 256", "--noise takes a number from 0 to 255, not 256"),
-        ("--noise 99999999999999999999", "--noise takes a number from 0 to 255, not 99999999999999999999"),
-        ("out --noise", "--noise takes a number from 0 to 255"),
-        ("--noise 2.5", "--noise takes a number from 0 to 255, not 2.5"),
-        ("--pitch 1919", "--pitch takes a number from 1920 to 8192, not 1919"),
-        ("--pitch 8193", "--pitch takes a number from 1920 to 8192, not 8193"),
-        ("--pitch 0", "--pitch takes a number from 1920 to 8192, not 0"),
-        ("--pitch -2048", "--pitch takes a number from 1920 to 8192, not -2048"),
-        ("--pitch 18446744073709553664", "--pitch takes a number from 1920 to 8192, not 18446744073709553664"),
-        ("--pitch wide", "--pitch takes a number from 1920 to 8192, not wide"),
-        ("out --pitch", "--pitch takes a number from 1920 to 8192"),
-        ("--pitch 2048 --pitch 2048", "--pitch is one too many"),
-        ("out --report", "--report takes the name of a file"),
-        ("--report --noise 3", "--report takes the name of a file"),
-        ("--report a --report a", "--report is one too many"),
-        ("--smear=14", "there is no option --smear=14"),
-        ("--blur 3", "there is no option --blur"),
-        ("out --help", "there is no option --help"),
-        ("-", "there is no option -"),
-        ("out more", "more is one too many"),
-        ("--noise 3 out --noise 3", "--noise is one too many"),
-    ] {
+    for (words, wrong) in BAD_OPTIONS {
         let (folder, output) = demo("bad", &words.split(' ').map(OsStr::new).collect::<Vec<_>>());
         let expected =
             format!("demo: {wrong}\nusage: demo [FOLDER] [--noise LEVELS] [--smear TAG] [--pitch BYTES] [--report FILE]\n");
