@@ -4,5 +4,5 @@ pub mod Places
 pub mod Extremes
 pub mod Reorder
 pub mod Order
-pub mod Shades
+pub mod Clear
 pub mod Quarter

@@ -10,9 +10,10 @@ pub enum Bits {
     Refused(u8),
 }
 
-struct Range {
-    least: u8,
-    greatest: u8,
+// The least and the greatest of some levels.
+pub struct Range {
+    pub least: u8,
+    pub greatest: u8,
 }
 
 fn lesser(a: u8, b: u8) -> u8
@@ -28,7 +29,7 @@ fn greater(a: u8, b: u8) -> u8
 }
 
 // The least and the greatest level.
-fn range_of(levels: &[u8]) -> Range
+pub fn range_of(levels: &[u8]) -> Range
     requires { ⌜ 0 < length (now levels) ⌝ }
     ensures { λ r. ⌜ (r .least ≡ leastOf (now (levels .entry))) × (r .greatest ≡ greatestOf (now (levels .entry))) ⌝ }
 {
@@ -44,7 +45,7 @@ fn range_of(levels: &[u8]) -> Range
 }
 
 // Half of the sum, halves up.
-fn middle_of(least: u8, greatest: u8) -> u8
+pub fn middle_of(least: u8, greatest: u8) -> u8
     ensures { λ r. ⌜ r ≡ (least + greatest + 1) / 2 ⌝ }
 {
     ((least as u32 + greatest as u32 + 1) / 2) as u8

@@ -18,7 +18,7 @@ use Rattle.word.proofs.Bits.{word-mod}
 use Rattle.places.specs.Corners.{badCorners, cornersOutside}
 use Rattle.places.specs.Place.{axesOf}
 use Rattle.levels.specs.Levels.{leastOf, greatestOf, middleOf, codeOf}
-use Rattle.levels.proofs.Shades.{Clear, clear-code}
+use Rattle.levels.proofs.Clear.{Clear, clear-code}
 use Rattle.likeness.specs.Likeness.{likeness}
 use Rattle.likeness.proofs.Apart.{unlike}
 use Rattle.likeness.proofs.Reading.{near-read}

@@ -10,6 +10,8 @@ use lib.Ieee.{Float}
 use lib.ListN.{length, getD}
 use Rattle.refusals.specs.Outcome.{Outcome, accepted, refused}
 use Rattle.refusals.specs.declared.Frame.{Frame}
+use Rattle.points.specs.declared.Quad.{Quad}
+use Rattle.points.specs.Turned.{turnedLeft}
 use Rattle.points.specs.Numbers.{quadAt, cornersAt}
 use Rattle.tables.specs.declared.Family.{Family}
 use Rattle.reader.specs.Reading.{Tag}
@@ -22,7 +24,8 @@ use Rattle.muosleap.specs.Quad.{decodeQuad}
 use Rattle.muosleap.specs.Quads.{decodeQuads}
 use Rattle.muosleap.proofs.Order.{quad-read}
 use Rattle.muosleap.proofs.ListReading.{accepted-means}
-use Rattle.paper.specs.Others.{Unshared, Shares}
+use Rattle.paper.specs.Others.{NoOther, Unshared, Shares}
+use Rattle.paper.specs.Demand3.{ownTag, ReadsOwn}
 use Rattle.paper.specs.Repeated.{ListedRow}
 
 module _ (plane : List ℕ) (frame : Frame) (family : Family) (codes : List ℕ) (quads : List Float) where
@@ -110,3 +113,17 @@ module _ (plane : List ℕ) (frame : Frame) (family : Family) (codes : List ℕ)
         only-shared = λ z. only-shared (ap (λ (row : List ℕ). getD row 0 0) (sym (h .row i l)) ∙ z);
         alone = λ u. (h .row i l ∙ ap rowOf (unshared u), h .corner i l ∙ ap cornersOf (unshared u));
       }
+
+-- a start that reads alone as its own tag reads so in every list in which no other quad gives its id
+pub own-listed : (family : Family) (codes : List ℕ) (id word : ℕ) (frame : Frame) (quad : Quad) (shown : List ℕ) (s : ℕ)
+    → decodeQuad shown frame family codes (turnedLeft s quad) ≡ accepted (ownTag codes id word quad s) → ReadsOwn family codes id word frame quad shown s
+own-listed family codes id word frame quad shown s alone = record {
+  alone = alone;
+  listed = λ quads rows corners n i a l e none.
+      let own = ownTag codes id word quad s in
+      let o : decodeQuad shown frame family codes (quadAt quads i) ≡ accepted own = ap (decodeQuad shown frame family codes) e ∙ alone in
+      let same : (tag : Tag) → decodeQuad shown frame family codes (quadAt quads i) ≡ accepted tag → id ≡ tag .id = λ tag p. let q : accepted own ≡ accepted tag = sym o ∙ p in cc in
+      let r = listed-row shown frame family codes quads rows corners n (list-says shown frame family codes quads rows corners n a) i l
+      .alone (λ tag p. subst (NoOther (λ j. decodeQuad shown frame family codes (quadAt quads j)) n i) (same tag p) none) in
+      (r .0 ∙ ap rowOf o, r .1 ∙ ap cornersOf o);
+}

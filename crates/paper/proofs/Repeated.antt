@@ -6,7 +6,7 @@ use Prim.Native.Nat.{ℕ, _<_}
 use native.Mathlib.Omega.{arith}
 use borrow.Author.Tests.{ltb-true, ne-eqb, not-false}
 use lib.Ieee.{Float}
-use lib.ListN.{length}
+use lib.ListN.{length, getD}
 use Rattle.refusals.specs.Outcome.{Outcome, accepted, refused}
 use Rattle.refusals.specs.Pixels.{badFrame}
 use Rattle.refusals.specs.declared.Frame.{Frame}
@@ -16,9 +16,7 @@ use Rattle.tables.specs.Table.{badTable}
 use Rattle.tables.specs.declared.Family.{Family}
 use Rattle.tag_families.specs.Families.{isFamily, familyOf, codesOf}
 use Rattle.tag_families.proofs.Families.{families-pass}
-use Rattle.painter.specs.declared.Print.{Print}
 use Rattle.grid.specs.Quads.{tagCount}
-use Rattle.grid.specs.declared.Grid.{Grid}
 use Rattle.reader.specs.Reading.{Tag, reading}
 use Rattle.reader.proofs.Answers.{Answers, reading-answers}
 use Rattle.listing.specs.Repeated.{givesId}
@@ -27,12 +25,11 @@ use Rattle.muosleap.specs.Quad.{decodeQuad, decodeQuadIn}
 use Rattle.muosleap.specs.Quads.{decodeQuads, decodeQuadsIn}
 use Rattle.muosleap.proofs.ListReading.{answer-cases, answer-cases-in, family-known}
 use Rattle.paper.specs.Others.{NoOther}
-use Rattle.paper.specs.Demand3.{Passes, printOrder, ownTurn}
-use Rattle.paper.specs.Sheet.{SheetPainted, Reads}
+use Rattle.paper.specs.Demand3.{printOrder, ownTurn, ReadsOwn}
 use Rattle.paper.specs.Repeated.{ListedRow, EachOnce, Repeated}
 use Rattle.paper.proofs.Listed.{list-says, listed-row}
 use Rattle.paper.proofs.Demand3.{demand-3}
-use Rattle.paper.proofs.Sheet.{sheets-read}
+use Rattle.paper.proofs.Sheet.{clean-tag, sheets-read}
 
 -- no refusal is an answer
 pub refused-not : {A : Type 0} (n : ℕ) (a : A) (X : Type 0) → refused n ≡ accepted a → X
@@ -98,26 +95,23 @@ whole-list-in plane frame number quads rows corners =
 
 -- ---- a sheet
 
-module _ (family : Family) (codes : List ℕ) (grid : Grid) (print : Print) (plane : List ℕ) (frame : Frame) (output : List Float) (shown : List ℕ) (written : List Float)
-    (took : SheetPainted family codes grid print plane frame output shown written) (passes : Passes family codes) (quads : List Float) (rows : List ℕ) (corners : List Float) (n : ℕ)
-    (a : decodeQuads shown frame family codes quads rows corners .answer ≡ accepted n) (each : EachOnce written quads (tagCount grid) n) where
-  -- what the sheet's law says of the tag that place i of the list holds
-  tag-at : (i : ℕ) → i < n → Reads family codes grid print plane frame (quadAt written (each .position i)) shown (each .position i) (each .start i)
-  tag-at i l = sheets-read .reads family codes grid print plane frame output shown written took passes (each .position i) (each .known i l) (each .start i) (each .start-lt i l)
-
+-- a list of a sheet's quads, each once, on a picture on which each of them reads as its own tag
+module _ (family : Family) (codes : List ℕ) (written : List Float) (tags : ℕ) (picture : List ℕ) (seen : Frame) (quads : List Float) (rows : List ℕ) (corners : List Float) (n : ℕ)
+    (a : decodeQuads picture seen family codes quads rows corners .answer ≡ accepted n) (each : EachOnce written quads tags n)
+    (own : (i : ℕ) → i < n → ReadsOwn family codes (each .position i) (getD codes (each .position i) 0) seen (quadAt written (each .position i)) picture (each .start i)) where
   -- no other quad of the list is of this position
-  none-other : (i : ℕ) → i < n → NoOther (λ j. decodeQuad shown frame family codes (quadAt quads j)) n i (each .position i)
+  none-other : (i : ℕ) → i < n → NoOther (λ j. decodeQuad picture seen family codes (quadAt quads j)) n i (each .position i)
   none-other i l j m d =
-      ap (givesId (each .position i)) (ap (decodeQuad shown frame family codes) (each .quad j m) ∙ tag-at j m .own .alone)
+      ap (givesId (each .position i)) (ap (decodeQuad picture seen family codes) (each .quad j m) ∙ own j m .alone)
       ∙ ne-eqb (each .position j) (each .position i) (λ e. d (each .once j i m l e))
 
-  whole : (i : ℕ) → i < n → let position = each .position i in
+  pub whole : (i : ℕ) → i < n → let position = each .position i in
       let tag : Tag = record { id = position; turn = ownTurn (each .start i); differing = 0; corners = printOrder (quadAt written position) } in
-      (rowAt (decodeQuads shown frame family codes quads rows corners .rows) i ≡ rowOf (accepted tag)) × (cornersAt (decodeQuads shown frame family codes quads rows corners .corners) i ≡ cornersOf (accepted tag))
+      (rowAt (decodeQuads picture seen family codes quads rows corners .rows) i ≡ rowOf (accepted tag)) × (cornersAt (decodeQuads picture seen family codes quads rows corners .corners) i ≡ cornersOf (accepted tag))
   whole i l =
-      let r = tag-at i l in
-      let o = r .own .listed quads rows corners n i a l (each .quad i l) (none-other i l) in
-      (o .0 ∙ ap (λ (t : Tag). rowOf (accepted t)) (r .tag), o .1 ∙ ap (λ (t : Tag). cornersOf (accepted t)) (r .tag))
+      let o = own i l .listed quads rows corners n i a l (each .quad i l) (none-other i l) in
+      let tag = clean-tag codes (each .position i) (quadAt written (each .position i)) (each .start i) in
+      (o .0 ∙ ap (λ (t : Tag). rowOf (accepted t)) tag, o .1 ∙ ap (λ (t : Tag). cornersOf (accepted t)) tag)
 
 pub repeated : Repeated
 repeated = record {
@@ -128,5 +122,7 @@ repeated = record {
   one-quad-in = one-quad-in;
   whole-list = whole-list;
   whole-list-in = whole-list-in;
-  sheet = whole;
+  sheet = λ family codes grid print plane frame output shown written took passes quads rows corners n a each.
+      whole family codes written (tagCount grid) shown frame quads rows corners n a each
+      (λ i l. sheets-read .reads family codes grid print plane frame output shown written took passes (each .position i) (each .known i l) (each .start i) (each .start-lt i l) .own);
 }

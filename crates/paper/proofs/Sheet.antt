@@ -35,8 +35,8 @@ use Rattle.grid.specs.declared.Grid.{Grid}
 use Rattle.grid.proofs.Quads.{quad-is}
 use Rattle.grid.proofs.Sheetable.{code-known, tag-printable}
 use Rattle.grid.proofs.Tags.{own-pixel}
-use Rattle.reader.specs.Reading.{column, row}
-use Rattle.reader.proofs.Depends.{Agree, reading-depends}
+use Rattle.reader.specs.Reading.{column, row, levelsOf}
+use Rattle.reader.proofs.Depends.{Agree, levels-depend, reading-depends}
 use Rattle.muosleap.specs.Quad.{decodeQuad}
 use Rattle.muosleap.proofs.Order.{quad-read}
 use Rattle.muosleap_paint.specs.PaintTag.{Painting}
@@ -46,21 +46,29 @@ use Rattle.muosleap_paint.proofs.PaintSheet.{sheet-done, sheet-accepted, sheet-
 use Rattle.paper.specs.Demand3.{Passes, Painted, printOrder, ownTurn, ownTag}
 use Rattle.paper.specs.Sheet.{SheetPainted, single, Shows, Reads, Sheets}
 use Rattle.paper.specs.Starts.{fromStart}
-use Rattle.paper.proofs.Corners.{print-square}
-use Rattle.paper.proofs.Demand3.{checked, own-listed, demand-3}
+use Rattle.paper.proofs.Corners.{print-square, print-sampled}
+use Rattle.paper.proofs.Given.{checked}
+use Rattle.paper.proofs.Listed.{own-listed}
+use Rattle.paper.proofs.Demand3.{demand-3}
+
+-- the tag of a position, whose code itself is painted: no module is misprinted
+pub clean-tag : (codes : List ℕ) (position : ℕ) (quad : Quad) (s : ℕ)
+    → ownTag codes position (getD codes position 0) quad s ≡ record { id = position; turn = ownTurn s; differing = 0; corners = printOrder quad }
+clean-tag codes position quad s =
+    ap (λ (d : ℕ). record { id = position; turn = ownTurn s; differing = d; corners = printOrder quad }) (differing-same 64 (getD codes position 0))
 
 module _ (family : Family) (codes : List ℕ) (grid : Grid) (print : Print) (plane : List ℕ) (frame : Frame) (quads : List Float) (shown : List ℕ) (written : List Float)
     (took : SheetPainted family codes grid print plane frame quads shown written) (position : ℕ) (known : position < tagCount grid) where
-  abbrev tag : Print
+  abbrev pub tag : Print
   tag = positionPrint family grid print position
 
-  abbrev word : ℕ
+  abbrev pub word : ℕ
   word = getD codes position 0
 
-  abbrev quad : Quad
+  abbrev pub quad : Quad
   quad = printQuad (family .edge) (family .border) tag
 
-  abbrev alone : List ℕ
+  abbrev pub alone : List ℕ
   alone = painted frame (family .edge) (family .border) word tag plane
 
   -- ---- what the entry's answer says
@@ -74,7 +82,7 @@ module _ (family : Family) (codes : List ℕ) (grid : Grid) (print : Print) (pla
   shown-is : shown ≡ sheet frame family codes grid print plane
   shown-is = ap (λ (o : SheetPainting). o .plane) (sym took ∙ sheet-done plane frame family codes grid print quads sheets)
 
-  written-is : quadAt written position ≡ quad
+  pub written-is : quadAt written position ≡ quad
   written-is =
       ap (λ (o : SheetPainting). quadAt (o .quads) position) (sym took ∙ sheet-done plane frame family codes grid print quads sheets)
       ∙ quad-is family grid print quads position known
@@ -110,8 +118,12 @@ module _ (family : Family) (codes : List ℕ) (grid : Grid) (print : Print) (pla
       square x y (ltb-true x (frame .width) (and-left wide high inside)) (ltb-true y (frame .height) (and-right wide high inside))
       (print-square (length plane) frame family word tag prints k l)
 
+  -- the sheet and the single tag have the same levels there
+  pub same-levels : levelsOf shown frame family (axesOf quad) ≡ levelsOf alone frame family (axesOf quad)
+  same-levels = levels-depend shown alone frame (frame .pitch) family (axesOf quad) agree (print-sampled (length plane) frame family word tag prints)
+
   module _ (passes : Passes family codes) where
-    good-shown : badFrame (length shown) frame ≡ false
+    pub good-shown : badFrame (length shown) frame ≡ false
     good-shown =
         ap (λ (n : ℕ). badFrame n frame) (ap length shown-is ∙ length-repainted frame (λ x y old. sheetPixel family codes grid print x y (print .light)) plane) ∙ sheets .planes
 
@@ -124,18 +136,18 @@ module _ (family : Family) (codes : List ℕ) (grid : Grid) (print : Print) (pla
         ∙ reading-depends shown alone frame (frame .pitch) family codes quad agree
         ∙ sym (quad-read alone frame family codes quad good-alone (sheets .tables))
 
+    -- the code itself is painted: nothing is misprinted
+    pub clean : Painted family codes position word plane frame tag quad alone
+    clean =
+        let t = good-table family codes (checked family codes passes .table) in
+        record { passes = passes; known = code-known sheets position known; misprinted = omega (arith, differing-same 64 word, t .coded .near .least); painted = painted-alone }
+
     module _ (s : ℕ) (start : s < 4) where
       same-start : decodeQuad shown frame family codes (turnedLeft s quad) ≡ decodeQuad alone frame family codes (turnedLeft s quad)
       same-start =
           demand-3 .any-quad shown frame family codes quad passes s start
           ∙ ap (fromStart s) same-first
           ∙ sym (demand-3 .any-quad alone frame family codes quad passes s start)
-
-      -- the code itself is painted: nothing is misprinted
-      clean : Painted family codes position word plane frame tag quad alone
-      clean =
-          let t = good-table family codes (checked family codes passes .table) in
-          record { passes = passes; known = code-known sheets position known; misprinted = omega (arith, differing-same 64 word, t .coded .near .least); painted = painted-alone }
 
       own-alone : decodeQuad shown frame family codes (turnedLeft s quad) ≡ accepted (ownTag codes position word quad s)
       own-alone = same-start ∙ demand-3 .painted-tags family codes position word plane frame tag quad alone clean s start .alone
@@ -144,7 +156,7 @@ module _ (family : Family) (codes : List ℕ) (grid : Grid) (print : Print) (pla
       reads-quad = record {
         as-single = same-start ∙ ap (λ (p : Painting). decodeQuad (p .plane) frame family codes (turnedLeft s quad)) (sym painted-alone);
         own = own-listed family codes position word frame quad shown s own-alone;
-        tag = ap (λ (d : ℕ). record { id = position; turn = ownTurn s; differing = d; corners = printOrder quad }) (differing-same 64 word);
+        tag = clean-tag codes position quad s;
       }
 
       tag-reads : Reads family codes grid print plane frame (quadAt written position) shown position s

@@ -30,7 +30,7 @@ module _ (plane other : List ℕ) (frame : Frame) (pitch : ℕ) (family : Family
   abbrev pub Agree : Axes → Type 0
   Agree axes = (k : ℕ) → k < samples family → sampleInside frame family axes k ≡ true → level plane frame family axes k ≡ level other (atPitch frame pitch) family axes k
 
-  levels-depend : (axes : Axes) → Agree axes → samplesInside frame family axes ≡ true → levelsOf plane frame family axes ≡ levelsOf other (atPitch frame pitch) family axes
+  pub levels-depend : (axes : Axes) → Agree axes → samplesInside frame family axes ≡ true → levelsOf plane frame family axes ≡ levelsOf other (atPitch frame pitch) family axes
   unfolding levelsOf samplesInside
   levels-depend axes h e =
       tabulate-ext (samples family) (level plane frame family axes) (level other (atPitch frame pitch) family axes)

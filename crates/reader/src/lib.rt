@@ -52,7 +52,13 @@ fn sample_at(plane: &[u8], frame: Frame, family: Family, axes: Axes, i: usize, j
 }
 
 // The levels of the samples, into `levels`; false where a sample lies outside the picture.
-fn sample_levels(plane: &[u8], frame: Frame, family: Family, axes: Axes, levels: &mut [u8]) -> bool
+pub fn sample_levels(
+    plane: &[u8],
+    frame: Frame,
+    family: Family,
+    axes: Axes,
+    levels: &mut [u8],
+) -> bool
     requires { ⌜ Readable (now plane) frame family × SmallAxes axes × (length (now levels) ≡ 64) ⌝ }
     ensures { λ r. ⌜ Sampled (now (plane .entry)) frame family axes r (now (levels .exit)) ⌝ }
 {

@@ -1,8 +1,8 @@
--- Levels that keep clear of the middle are read as what they are; levels that lie close together are refusal 11. Assumes nothing.
-use mathlib.Core.Path.{_≡_, sym, ap, ap₂, _∙_}
+-- Levels that keep clear of the middle are read as what they are. Assumes nothing.
+use mathlib.Core.Path.{_≡_, sym, ap, _∙_}
 use mathlib.Core.Logic.{_⊎_, inl, inr}
 use mathlib.Core.List.{List}
-use Prim.Native.Nat.{ℕ, _+_, _-_, _/_, _≤_, _<_}
+use Prim.Native.Nat.{ℕ, _+_, _-_, _≤_, _<_}
 use native.Mathlib.Omega.{arith}
 use borrow.Author.Tests.{lt-ltb, le-ltb}
 use lib.ListN.{length, getD}
@@ -11,7 +11,6 @@ use Rattle.lists.proofs.Sum.{sum-ext, sum-none}
 use Rattle.refusals.specs.Outcome.{accepted}
 use Rattle.word.specs.Word.{word}
 use Rattle.levels.specs.Levels.{leastOf, greatestOf, middleOf, above, distance, unsure, unsureOf, codeOf}
-use Rattle.levels.proofs.Extremes.{Level, range-is}
 use Rattle.levels.proofs.Cases.{code-word}
 use Rattle.levels.proofs.Places.{word-by-levels}
 
@@ -39,25 +38,3 @@ clear-code l band allowed gap f pos wide contrast clear =
     sum-ext (length l) (λ k. unsure m band (getD l k 0)) (λ k. 0) (λ k h. clear-sure m gap (f (length l - 1 - k)) (getD l k 0) band wide (clear k h)) ∙ sum-none (length l) in
     code-word l band allowed contrast (omega arith)
     ∙ ap (λ (x : ℕ). accepted x) (word-by-levels m l f (λ k h. clear-bit m gap (f (length l - 1 - k)) (getD l k 0) pos (clear k h)))
-
--- a level of the bit b has one of two shades
-abbrev pub Shade : ℕ → ℕ → ℕ → ℕ → Type 0
-Shade light dark b level = ((b ≡ 1) × (level ≡ light)) ⊎ ((b ≡ 0) × (level ≡ dark))
-
--- two shades at least 50 apart, both of which occur: 1 exactly where it is light
-module _ (l : List ℕ) (band allowed light dark : ℕ) (f : ℕ → ℕ) (near : band ≤ 25) (contrast : dark + 50 ≤ light)
-    (shades : (k : ℕ) → k < length l → Shade light dark (f (length l - 1 - k)) (getD l k 0)) (lit : Level l light) (unlit : Level l dark) where
-  shade-within : (b level : ℕ) → Shade light dark b level → (dark ≤ level) × (level ≤ light)
-  shade-within b level (inl s) = (omega (arith, s .1), omega (arith, s .1))
-  shade-within b level (inr s) = (omega (arith, s .1), omega (arith, s .1))
-
-  shade-clear : (middle b level : ℕ) → middle ≡ (dark + light + 1) / 2 → Shade light dark b level → Clear middle 25 b level
-  shade-clear middle b level e (inl s) = inl (s .0, omega (arith, s .1))
-  shade-clear middle b level e (inr s) = inr (s .0, omega (arith, s .1))
-
-  pub shades-code : codeOf l band allowed ≡ accepted (word (length l) f)
-  shades-code =
-      let range = range-is l dark light (λ k h. shade-within (f (length l - 1 - k)) (getD l k 0) (shades k h)) unlit lit in
-      let middle = ap₂ (λ (x y : ℕ). (x + y + 1) / 2) (range .0) (range .1) in
-      clear-code l band allowed 25 f (omega arith) near (omega (arith, range .0, range .1))
-      (λ k h. shade-clear (middleOf l) (f (length l - 1 - k)) (getD l k 0) middle (shades k h))
