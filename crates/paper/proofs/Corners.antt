@@ -40,7 +40,7 @@ use Rattle.reader.specs.Reading.{samples, column, row, sampleInside, samplesIns
 use Rattle.reader.proofs.Starts.{column-turned, row-turned, inside-start}
 
 -- the painter's coordinate lies half a pixel before pixel n
-half-is : (n : ℕ) → HalfBefore (halfBefore n) n
+pub half-is : (n : ℕ) → HalfBefore (halfBefore n) n
 half-is zero = half-zero
 half-is (suc n) = half-suc n
 
@@ -97,18 +97,18 @@ unfoldable pub sources : ℕ → ℕ → ℕ → ℕ
 sources e zero k = k
 sources e (suc t) k = sources e t (source e k)
 
-sources-lt : (e t k : ℕ) → k < e * e → sources e t k < e * e
+pub sources-lt : (e t k : ℕ) → k < e * e → sources e t k < e * e
 unfolding sources
 sources-lt e zero k h = h
 sources-lt e (suc t) k h = sources-lt e t (source e k) (source-lt e k h)
 
 -- sample k of the start t is sample `sources t k` of start 0
-column-start : (family : Family) (q : Quad) (t k : ℕ) → k < samples family → column (axesOf (turnedLeft t q)) family k ≡ column (axesOf q) family (sources (family .edge) t k)
+pub column-start : (family : Family) (q : Quad) (t k : ℕ) → k < samples family → column (axesOf (turnedLeft t q)) family k ≡ column (axesOf q) family (sources (family .edge) t k)
 unfolding turnedLeft sources
 column-start family q zero k h = refl
 column-start family q (suc t) k h = column-turned family (turnedLeft t q) k h ∙ column-start family q t (source (family .edge) k) (source-lt (family .edge) k h)
 
-row-start : (family : Family) (q : Quad) (t k : ℕ) → k < samples family → row (axesOf (turnedLeft t q)) family k ≡ row (axesOf q) family (sources (family .edge) t k)
+pub row-start : (family : Family) (q : Quad) (t k : ℕ) → k < samples family → row (axesOf (turnedLeft t q)) family k ≡ row (axesOf q) family (sources (family .edge) t k)
 unfolding turnedLeft sources
 row-start family q zero k h = refl
 row-start family q (suc t) k h = row-turned family (turnedLeft t q) k h ∙ row-start family q t (source (family .edge) k) (source-lt (family .edge) k h)
@@ -117,7 +117,7 @@ row-start family q (suc t) k h = row-turned family (turnedLeft t q) k h ∙ row-
 abbrev cell-of : ℕ → ℕ → Cell
 cell-of e k = cellAt (k / e) (k % e)
 
-cell-in : (e k : ℕ) → k < e * e → CellIn e (cell-of e k)
+pub cell-in : (e k : ℕ) → k < e * e → CellIn e (cell-of e k)
 cell-in e k h = record { rows = square-row e k h; columns = square-column e k h }
 
 -- the turned print shows its own module k there

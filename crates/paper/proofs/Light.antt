@@ -29,7 +29,7 @@ use Rattle.reader.specs.Reading.{levelsOf}
 use Rattle.reader.proofs.Starts.{levels-size, levels-turned}
 use Rattle.paper.specs.Demand3.{Passes, ReadsOwn}
 use Rattle.paper.specs.Sheet.{SheetPainted}
-use Rattle.paper.specs.Light.{clears, litLevels, isLit, Lit, Light}
+use Rattle.paper.specs.Light.{clears, clearsAt, litLevels, isLit, Lit, Light}
 use Rattle.paper.proofs.Lit.{shown-lit, lit-own}
 use Rattle.paper.proofs.Sheet.{tag, word, quad, alone, written-is, same-levels, good-shown, clean, clean-tag}
 use Rattle.paper.proofs.Repeated.{whole}
@@ -76,7 +76,7 @@ module _ (family : Family) (codes : List ℕ) (grid : Grid) (print : Print) (pla
       (record {
         wide = refl;
         high = refl;
-        planes = good-shown family codes grid print plane frame quads shown written took position known passes;
+        planes = good-shown family codes grid print plane frame quads shown written took position known;
         samples = ap₂ (λ (p l : List ℕ). litLevels (middleOf l) (print .light) p l) same same ∙ own .samples;
       })
 
@@ -84,10 +84,10 @@ module _ (family : Family) (codes : List ℕ) (grid : Grid) (print : Print) (pla
 
 module _ (light : ℕ) (p l : List ℕ) (σ : ℕ → ℕ) (same : length p ≡ length l) (keeps : Reorders (length l) σ) where
   abbrev cleared : ℕ → Bool
-  cleared k = clears (middleOf l) (eqb (getD p k 0) light) (getD l k 0)
+  cleared = clearsAt (middleOf l) light p l
 
   abbrev cleared′ : ℕ → Bool
-  cleared′ k = clears (middleOf (reordered σ l)) (eqb (getD (reordered σ p) k 0) light) (getD (reordered σ l) k 0)
+  cleared′ = clearsAt (middleOf (reordered σ l)) light (reordered σ p) (reordered σ l)
 
   size : length (reordered σ l) ≡ length l
   size = length-tabulate (length l) (λ k. getD l (σ k) 0)
@@ -97,7 +97,7 @@ module _ (light : ℕ) (p l : List ℕ) (σ : ℕ → ℕ) (same : length p ≡ 
 
   moved : (k : ℕ) → k < length l → cleared′ k ≡ cleared (σ k)
   moved k h =
-      ap (λ (m : ℕ). clears m (eqb (getD (reordered σ p) k 0) light) (getD (reordered σ l) k 0)) middle
+      ap (λ (m : ℕ). clearsAt m light (reordered σ p) (reordered σ l) k) middle
       ∙ ap₂ (λ (a b : ℕ). clears (middleOf l) (eqb a light) b)
       (getD-tabulate (length p) (λ j. getD p (σ j) 0) k 0 (subst (λ (n : ℕ). k < n) (sym same) h)) (getD-tabulate (length l) (λ j. getD l (σ j) 0) k 0 h)
 

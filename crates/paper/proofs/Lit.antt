@@ -36,7 +36,7 @@ use Rattle.muosleap.specs.Quad.{decodeQuad}
 use Rattle.muosleap.proofs.Order.{quad-read}
 use Rattle.paper.specs.Starts.{fromStart}
 use Rattle.paper.specs.Demand3.{misprints, Painted, printOrder, ownTag, ReadsOwn}
-use Rattle.paper.specs.Light.{clears, contrasts, litLevels, isLit, Lit}
+use Rattle.paper.specs.Light.{clears, clearsAt, contrasts, litLevels, isLit, Lit}
 use Rattle.paper.proofs.Given.{Checked, checked, Took, took}
 use Rattle.paper.proofs.Starts.{start-alike}
 use Rattle.paper.proofs.Clear.{Taken, Printed, clear-read}
@@ -66,7 +66,7 @@ module _ (family : Family) (codes : List ℕ) (id w : ℕ) (printed : Printed fa
   size = levels-size family q seen picture
 
   abbrev cleared : ℕ → Bool
-  cleared k = clears (middleOf levels) (eqb (getD printing k 0) light) (getD levels k 0)
+  cleared = clearsAt (middleOf levels) light printing levels
 
   contrast : contrasts levels ≡ true
   unfolding isLit litLevels
@@ -133,26 +133,37 @@ module _ (family : Family) (codes : List ℕ) (id word : ℕ) (plane : List ℕ)
         ∙ own-lit plane frame family codes id word print print-is (tag .prints);
   }
 
-  module _ (picture : List ℕ) (seen : Frame) (lit : Lit shown frame (print .light) family quad picture seen) where
-    first : reading picture seen family codes own-quad ≡ accepted (record { id = id; turn = 0; differing = misprints codes id word; corners = answerCorners own-quad 0 })
+  -- a quad that passes 8, 9 and 10 and at whose samples the painted plane shows the word, in a picture in which they are lit
+  module _ (found : Quad) (passed : Taken frame family found)
+      (shades : (k : ℕ) → k < samples family → getD (levelsOf shown frame family (axesOf found)) k 0 ≡ shadeOfBit (print .light) (print .dark) (bit word (samples family - 1 - k)))
+      (picture : List ℕ) (seen : Frame) (lit : Lit shown frame (print .light) family found picture seen) (s : ℕ) (start : s < 4) where
+    first : reading picture seen family codes found ≡ accepted (record { id = id; turn = 0; differing = misprints codes id word; corners = answerCorners found 0 })
     first =
-        lit-read family codes id word print-is own-plane frame (print .light) (print .dark) (omega (arith, good-print (tag .prints) .style .apart)) own-quad
-        (level-at plane frame family codes id word print print-is (tag .prints)) picture seen
-        (taken-at frame seen family own-quad (lit .wide) (lit .high) (taken plane frame family codes id word print print-is (tag .prints)))
-        (sym (lit-same picture seen) ∙ lit .samples)
+        lit-read family codes id word print-is shown frame (print .light) (print .dark) (omega (arith, good-print (tag .prints) .style .apart)) found shades picture seen
+        (taken-at frame seen family found (lit .wide) (lit .high) passed) (lit .samples)
 
-    module _ (s : ℕ) (start : s < 4) where
-      -- start s of the quad, from start 0
-      own-reading : reading picture seen family codes (turnedLeft s quad) ≡ accepted (ownTag codes id word quad s)
-      unfolding turnedLeft
-      own-reading =
-          start-alike family codes (check .table) (check .passes) s start picture seen quad
-          ∙ ap (fromStart s) (ap (reading picture seen family codes) (tag .quad-is) ∙ first
-          ∙ ap (λ (c : Quad). accepted (record { id = id; turn = 0; differing = misprints codes id word; corners = answerCorners c 0 })) (sym (tag .quad-is)))
-          ∙ ap (λ (t : ℕ). accepted (record { id = id; turn = t % 4; differing = misprints codes id word; corners = printOrder quad })) (zero-add (4 - s))
+    -- start s of the quad, from start 0
+    found-reading : reading picture seen family codes (turnedLeft s found) ≡ accepted (ownTag codes id word found s)
+    unfolding turnedLeft
+    found-reading =
+        start-alike family codes (check .table) (check .passes) s start picture seen found
+        ∙ ap (fromStart s) first
+        ∙ ap (λ (t : ℕ). accepted (record { id = id; turn = t % 4; differing = misprints codes id word; corners = printOrder found })) (zero-add (4 - s))
 
-      own-alone : decodeQuad picture seen family codes (turnedLeft s quad) ≡ accepted (ownTag codes id word quad s)
-      own-alone = quad-read picture seen family codes (turnedLeft s quad) (lit .planes) (check .table) ∙ own-reading
+    found-alone : decodeQuad picture seen family codes (turnedLeft s found) ≡ accepted (ownTag codes id word found s)
+    found-alone = quad-read picture seen family codes (turnedLeft s found) (lit .planes) (check .table) ∙ found-reading
 
-      pub lit-own : ReadsOwn family codes id word seen quad picture s
-      lit-own = own-listed family codes id word seen quad picture s own-alone
+    pub found-own : ReadsOwn family codes id word seen found picture s
+    found-own = own-listed family codes id word seen found picture s found-alone
+
+  -- the painter's own quad
+  pub own-taken : Taken frame family quad
+  own-taken = subst (Taken frame family) (sym (tag .quad-is)) (taken plane frame family codes id word print print-is (tag .prints))
+
+  pub own-shades : (k : ℕ) → k < samples family → getD (levelsOf shown frame family (axesOf quad)) k 0 ≡ shadeOfBit (print .light) (print .dark) (bit word (samples family - 1 - k))
+  own-shades k h =
+      ap₂ (λ (p : List ℕ) (q : Quad). getD (levelsOf p frame family (axesOf q)) k 0) (tag .shown-is) (tag .quad-is)
+      ∙ level-at plane frame family codes id word print print-is (tag .prints) k h
+
+  pub lit-own : (picture : List ℕ) (seen : Frame) → Lit shown frame (print .light) family quad picture seen → (s : ℕ) → s < 4 → ReadsOwn family codes id word seen quad picture s
+  lit-own = found-own quad own-taken own-shades

@@ -30,7 +30,7 @@ use Rattle.painter.specs.declared.Print.{Print}
 use Rattle.painter.proofs.Printable.{good-print}
 use Rattle.reader.specs.Reading.{samples, column, row, levelsOf}
 use Rattle.reader.proofs.Starts.{levels-size}
-use Rattle.paper.specs.Light.{clears, isLit, litLevels}
+use Rattle.paper.specs.Light.{clears, clearsAt, litLevels, isLit}
 use Rattle.paper.proofs.Misprints.{Has, has-one, has-zero}
 use Rattle.paper.proofs.Clear.{Taken, Printed}
 use Rattle.paper.proofs.Corners.{print-small, print-within, print-sampled, print-level}
@@ -133,5 +133,5 @@ module _ (plane : List ℕ) (frame : Frame) (family : Family) (codes : List ℕ)
   own-lit =
       let middle : middleOf levels ≡ (print .dark + print .light + 1) / 2 = ap₂ (λ (x y : ℕ). (x + y + 1) / 2) (range .0) (range .1) in
       ap₂ _&&_ (le-leb 50 (greatestOf levels - leastOf levels) (omega (arith, apart, range .0, range .1)))
-      (each-of (length levels) (λ k. clears (middleOf levels) (eqb (getD levels k 0) (print .light)) (getD levels k 0))
+      (each-of (length levels) (clearsAt (middleOf levels) (print .light) levels levels)
       (λ k h. shade-clears (print .light) (print .dark) (getD levels k 0) apart (middleOf levels) middle (shades k h)))

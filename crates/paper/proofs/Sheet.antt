@@ -76,7 +76,7 @@ module _ (family : Family) (codes : List ℕ) (grid : Grid) (print : Print) (pla
   sheets : Sheetable (length plane) frame family codes grid print (length quads)
   sheets = sheet-accepted plane frame family codes grid print quads (ap (λ (o : SheetPainting). o .answer) took)
 
-  prints : Printable (length plane) frame (family .edge) (family .border) word tag
+  pub prints : Printable (length plane) frame (family .edge) (family .border) word tag
   prints = tag-printable sheets position known
 
   shown-is : shown ≡ sheet frame family codes grid print plane
@@ -122,14 +122,14 @@ module _ (family : Family) (codes : List ℕ) (grid : Grid) (print : Print) (pla
   pub same-levels : levelsOf shown frame family (axesOf quad) ≡ levelsOf alone frame family (axesOf quad)
   same-levels = levels-depend shown alone frame (frame .pitch) family (axesOf quad) agree (print-sampled (length plane) frame family word tag prints)
 
+  pub good-shown : badFrame (length shown) frame ≡ false
+  good-shown =
+      ap (λ (n : ℕ). badFrame n frame) (ap length shown-is ∙ length-repainted frame (λ x y old. sheetPixel family codes grid print x y (print .light)) plane) ∙ sheets .planes
+
+  good-alone : badFrame (length alone) frame ≡ false
+  good-alone = ap (λ (n : ℕ). badFrame n frame) (length-painted frame (family .edge) (family .border) word tag plane) ∙ sheets .planes
+
   module _ (passes : Passes family codes) where
-    pub good-shown : badFrame (length shown) frame ≡ false
-    good-shown =
-        ap (λ (n : ℕ). badFrame n frame) (ap length shown-is ∙ length-repainted frame (λ x y old. sheetPixel family codes grid print x y (print .light)) plane) ∙ sheets .planes
-
-    good-alone : badFrame (length alone) frame ≡ false
-    good-alone = ap (λ (n : ℕ). badFrame n frame) (length-painted frame (family .edge) (family .border) word tag plane) ∙ sheets .planes
-
     same-first : decodeQuad shown frame family codes quad ≡ decodeQuad alone frame family codes quad
     same-first =
         quad-read shown frame family codes quad good-shown (sheets .tables)

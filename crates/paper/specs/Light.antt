@@ -36,15 +36,19 @@ abbrev pub clears : (middle : ℕ) → (light : Bool) → (level : ℕ) → Bool
 clears middle true level = leb (middle + 10) level
 clears middle false level = leb (level + 10) middle
 
+-- of sample k: the painted plane shows the light shade there, or else the dark one
+abbrev pub clearsAt : (middle light : ℕ) → (painted levels : List ℕ) → ℕ → Bool
+clearsAt middle light painted levels k = clears middle (eqb (getD painted k 0) light) (getD levels k 0)
+
 -- "greatest and least are at least 50 apart"
 abbrev pub contrasts : List ℕ → Bool
 contrasts levels = leb 50 (greatestOf levels - leastOf levels)
 
--- both, of the levels at some samples of which these were painted: the light shade, or else the dark one
+-- both, of the levels at some samples, and of what was painted at each
 unfoldable pub litLevels : (middle light : ℕ) → (painted levels : List ℕ) → Bool
 unfolding each
 litLevels middle light painted levels =
-    contrasts levels && each (length levels) (λ k. clears middle (eqb (getD painted k 0) light) (getD levels k 0))
+    contrasts levels && each (length levels) (clearsAt middle light painted levels)
 
 -- the samples of a quad: what the painted plane shows at them, and their levels in the picture. "The middle is that of document 01, over the
 -- samples taken."

@@ -2,7 +2,7 @@
 -- natural numbers, which omega proves. Assumes nothing.
 use mathlib.Core.Path.{_≡_, refl, ap}
 use mathlib.Core.Bool.{Bool, true, false, cond}
-use Prim.Native.Nat.{ℕ, zero, suc, _+_, _-_, _*_, _≤_}
+use Prim.Native.Nat.{ℕ, zero, suc, _+_, _-_, _*_, _<_, _≤_}
 use native.Mathlib.Omega.{arith}
 use borrow.Author.Tests.{ltb-true, ltb-false}
 use lib.Dec.{ltb}
@@ -90,3 +90,23 @@ is-abs (negsuc m) n a b p h k = omega arith
 -- how large it is
 pub diff-abs : {x : ℤ} {a b : ℕ} (n : ℕ) → Diff x a b → a ≤ b + n → b ≤ a + n → natAbs x ≤ n
 diff-abs {x} {a} {b} n p h k = is-abs x n a b (p .is) h k
+
+is-near : (x : ℤ) (n a b : ℕ) → Is x a b → natAbs x < n → (a < b + n) × (b < a + n)
+is-near (pos m) n a b p h = omega arith
+is-near (negsuc m) n a b p h = omega arith
+
+-- it is small, so its two numbers are near each other
+pub diff-near : {x : ℤ} {a b n : ℕ} → Diff x a b → natAbs x < n → (a < b + n) × (b < a + n)
+diff-near {x} {a} {b} {n} p h = is-near x n a b (p .is) h
+
+is-abs-two : (x y : ℤ) (n a b c d : ℕ) → Is x a b → Is y c d → a + c ≤ b + d + n → b + d ≤ a + c + n → a + d ≤ b + c + n → b + c ≤ a + d + n
+    → natAbs x + natAbs y ≤ n
+is-abs-two (pos k) (pos l) n a b c d p q e f g h = omega arith
+is-abs-two (pos k) (negsuc l) n a b c d p q e f g h = omega arith
+is-abs-two (negsuc k) (pos l) n a b c d p q e f g h = omega arith
+is-abs-two (negsuc k) (negsuc l) n a b c d p q e f g h = omega arith
+
+-- how large two are together: at most n where their sum and their difference are
+pub diff-abs-two : {x y : ℤ} {a b c d : ℕ} (n : ℕ) → Diff x a b → Diff y c d → a + c ≤ b + d + n → b + d ≤ a + c + n → a + d ≤ b + c + n → b + c ≤ a + d + n
+    → natAbs x + natAbs y ≤ n
+diff-abs-two {x} {y} {a} {b} {c} {d} n p q e f g h = is-abs-two x y n a b c d (p .is) (q .is) e f g h

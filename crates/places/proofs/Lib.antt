@@ -6,3 +6,4 @@ pub mod Whole
 pub mod Small
 pub mod Turned
 pub mod Painted
+pub mod Off

@@ -18,12 +18,15 @@ use Rattle.lists.proofs.Grid.{row-of, column-of}
 use Rattle.word.proofs.Turn.{place-lt}
 use Rattle.refusals.specs.Pixels.{levelAt}
 use Rattle.refusals.specs.declared.Frame.{Frame}
+use Rattle.points.specs.declared.Quad.{Quad}
 use Rattle.tables.specs.declared.Family.{Family}
 use Rattle.places.specs.declared.Axis.{Axis}
 use Rattle.places.specs.declared.Axes.{Axes}
-use Rattle.places.specs.Place.{sideOf, modulePixel, samplePixel}
+use Rattle.places.specs.Corners.{badCorners}
+use Rattle.places.specs.Place.{sideOf, axesOf, modulePixel, samplePixel}
+use Rattle.places.proofs.Small.{axes-small}
 use Rattle.reader.specs.Reading.{samples, column, row, sampleInside, samplesInside, levelsOf}
-use Rattle.reader.specs.Sampling.{sampleOf, Sampled}
+use Rattle.reader.specs.Sampling.{SmallAxes, sampleOf, Sampled}
 use Rattle.reader.specs.declared.Sample.{Sample}
 use Rattle.reader.specs.declared.Sample.the-variants.{Level, Outside}
 
@@ -56,6 +59,10 @@ module _ (plane : List ℕ) (frame : Frame) (family : Family) (axes : Axes) (k x
 -- a row and a column of the square are one of its places, of which there are at most 64
 pub place-in : (edge i j k : ℕ) → edge ≤ 8 → i < edge → j < edge → k ≡ i * edge + j → (k < edge * edge) × (k < 64)
 place-in edge i j k h hi hj e = (subst (λ (n : ℕ). n < edge * edge) (sym e) (digits-lt hi hj), omega (arith, place-lt edge i j h hi hj))
+
+-- the axes of a quad that refusal 8 lets through
+pub small-axes : (quad : Quad) (axes : Axes) → badCorners quad ≡ false → axes ≡ axesOf quad → SmallAxes axes
+small-axes quad axes good e = subst SmallAxes (sym e) (let s = axes-small quad good in record { x-small = s .0; y-small = s .1 })
 
 -- ---- the loop over all samples
 

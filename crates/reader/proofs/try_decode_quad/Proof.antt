@@ -7,23 +7,17 @@ use native.Mathlib.Omega.{arith}
 use borrow.Author.Needs.{needs}
 use borrow.Author.Tests.{not-true, not-false}
 use Rattle.refusals.specs.declared.Frame.{Frame}
-use Rattle.points.specs.declared.Quad.{Quad}
 use Rattle.tables.specs.declared.Family.{Family}
 use Rattle.tables.proofs.Table.{good-table}
 use Rattle.places.specs.declared.Axes.{Axes}
-use Rattle.places.specs.Corners.{badCorners}
 use Rattle.places.specs.Place.{axesOf}
-use Rattle.places.proofs.Small.{axes-small}
 use Rattle.levels.specs.Levels.{codeOf}
 use Rattle.reader.specs.Reading.{samplesInside, levelsOf, tagOf}
-use Rattle.reader.specs.Sampling.{SmallAxes, Sampled}
-use Rattle.reader.proofs.Samples.{part-size}
+use Rattle.reader.specs.Sampling.{Sampled}
+use Rattle.reader.proofs.Samples.{small-axes, part-size}
 use Rattle.reader.proofs.Order.{reading-8, reading-9, reading-10, reading-on, readable}
 use Rattle.reader.proofs.try_decode_quad.Statement.{statement}
 use Rattle.reader.proofs.try_decode_quad.Tie as tie
-
-small : (quad : Quad) (axes : Axes) → badCorners quad ≡ false → axes ≡ axesOf quad → SmallAxes axes
-small quad axes good e = subst SmallAxes (sym e) (let s = axes-small quad good in record { x-small = s .0; y-small = s .1 })
 
 returns : tie.Need-returns
 returns c =
@@ -52,7 +46,7 @@ sample-levels-requires c κs =
     let b = g .before in
     let s = b .before .before .before in
     let a = s .args in
-    (readable (a .plane .now) (a .frame) (a .family) (a .codes .now) (s .pre .0) (s .pre .1), small (a .quad) (x .axes-of .result) (sym (b .bad-corners .ensures) ∙ g .if1 .left) (x .axes-of .ensures), refl)
+    (readable (a .plane .now) (a .frame) (a .family) (a .codes .now) (s .pre .0) (s .pre .1), small-axes (a .quad) (x .axes-of .result) (sym (b .bad-corners .ensures) ∙ g .if1 .left) (x .axes-of .ensures), refl)
 
 -- the flag says whether all samples lie in the picture
 inside-is : (plane : List ℕ) (frame : Frame) (family : Family) (axes axes′ : Axes) (r t : Bool) (levels : List ℕ) → Sampled plane frame family axes r levels → axes ≡ axes′ → r ≡ t → samplesInside frame family axes′ ≡ t
