@@ -29,7 +29,7 @@ use Rattle.reader.specs.Reading.{levelsOf}
 use Rattle.reader.proofs.Starts.{levels-size, levels-turned}
 use Rattle.paper.specs.Demand3.{Passes, ReadsOwn}
 use Rattle.paper.specs.Sheet.{SheetPainted}
-use Rattle.paper.specs.Light.{clears, clearsAt, litLevels, isLit, Lit, Light}
+use Rattle.paper.specs.Light.{clears, clearsAt, contrast, litLevels, isLit, Lit, Light}
 use Rattle.paper.proofs.Lit.{shown-lit, lit-own}
 use Rattle.paper.proofs.Sheet.{tag, word, quad, alone, written-is, same-levels, good-shown, clean, clean-tag}
 use Rattle.paper.proofs.Repeated.{whole}
@@ -113,7 +113,7 @@ module _ (light : ℕ) (p l : List ℕ) (σ : ℕ → ℕ) (same : length p ≡ 
 
   lit-reordered : litLevels (middleOf (reordered σ l)) light (reordered σ p) (reordered σ l) ≡ litLevels (middleOf l) light p l
   unfolding litLevels
-  lit-reordered = ap₂ _&&_ (ap₂ (λ (x y : ℕ). leb 50 (y - x)) (least-reordered l σ keeps) (greatest-reordered l σ keeps)) all-cleared
+  lit-reordered = ap₂ _&&_ (ap₂ (λ (x y : ℕ). leb contrast (y - x)) (least-reordered l σ keeps) (greatest-reordered l σ keeps)) all-cleared
 
 module _ (shown : List ℕ) (frame : Frame) (light : ℕ) (family : Family) (quad : Quad) (picture : List ℕ) (seen : Frame) where
   lit-turned : (q : Quad) → isLit shown frame light family (turnedOnce q) picture seen ≡ isLit shown frame light family q picture seen

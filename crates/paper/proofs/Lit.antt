@@ -5,7 +5,7 @@ use mathlib.Core.Logic.{inl, inr}
 use mathlib.Core.Bool.{Bool, true, false, _&&_}
 use mathlib.Core.List.{List}
 use Prim.Native.Nat.{ℕ, zero, suc, _+_, _-_, _%_, _<_}
-use native.Mathlib.Nat.{not-suc-le-zero, le-of-suc-le-suc, le-refl, zero-add}
+use native.Mathlib.Nat.{not-suc-le-zero, le-of-suc-le-suc, zero-add}
 use native.Mathlib.Omega.{arith}
 use borrow.Author.Tests.{leb-true, eq-eqb, ne-eqb}
 use lib.Dec.{ltb, eqb}
@@ -36,7 +36,7 @@ use Rattle.muosleap.specs.Quad.{decodeQuad}
 use Rattle.muosleap.proofs.Order.{quad-read}
 use Rattle.paper.specs.Starts.{fromStart}
 use Rattle.paper.specs.Demand3.{misprints, Painted, printOrder, ownTag, ReadsOwn}
-use Rattle.paper.specs.Light.{clears, clearsAt, contrasts, litLevels, isLit, Lit}
+use Rattle.paper.specs.Light.{clearance, clears, clearsAt, contrast, contrasts, litLevels, isLit, Lit}
 use Rattle.paper.proofs.Given.{Checked, checked, Took, took}
 use Rattle.paper.proofs.Starts.{start-alike}
 use Rattle.paper.proofs.Clear.{Taken, Printed, clear-read}
@@ -44,13 +44,13 @@ use Rattle.paper.proofs.Painted.{shadeOfBit, taken, level-at, own-lit}
 use Rattle.paper.proofs.Listed.{own-listed}
 
 -- a level that clears the middle on the side of its module's shade
-clear-of : (middle light dark painted b level : ℕ) → dark < light → b < 2 → painted ≡ shadeOfBit light dark b → clears middle (eqb painted light) level ≡ true → Clear middle 10 b level
+clear-of : (middle light dark painted b level : ℕ) → dark < light → b < 2 → painted ≡ shadeOfBit light dark b → clears middle (eqb painted light) level ≡ true → Clear middle clearance b level
 clear-of middle light dark painted zero level a h p c =
     let unlit : eqb painted light ≡ false = ap (λ (x : ℕ). eqb x light) p ∙ ne-eqb dark light (λ e. omega arith) in
-    inr (refl, leb-true (level + 10) middle (ap (λ (t : Bool). clears middle t level) (sym unlit) ∙ c))
+    inr (refl, leb-true (level + clearance) middle (ap (λ (t : Bool). clears middle t level) (sym unlit) ∙ c))
 clear-of middle light dark painted (suc zero) level a h p c =
     let lit : eqb painted light ≡ true = ap (λ (x : ℕ). eqb x light) p ∙ eq-eqb light light refl in
-    inl (refl, leb-true (middle + 10) level (ap (λ (t : Bool). clears middle t level) (sym lit) ∙ c))
+    inl (refl, leb-true (middle + clearance) level (ap (λ (t : Bool). clears middle t level) (sym lit) ∙ c))
 clear-of middle light dark painted (suc (suc b)) level a h p c = absurd (not-suc-le-zero (le-of-suc-le-suc (le-of-suc-le-suc h)))
 
 module _ (family : Family) (codes : List ℕ) (id w : ℕ) (printed : Printed family codes id w) (shown : List ℕ) (frame : Frame) (light dark : ℕ) (apart : dark < light) (q : Quad)
@@ -68,15 +68,15 @@ module _ (family : Family) (codes : List ℕ) (id w : ℕ) (printed : Printed fa
   abbrev cleared : ℕ → Bool
   cleared = clearsAt (middleOf levels) light printing levels
 
-  contrast : contrasts levels ≡ true
+  apart-enough : contrasts levels ≡ true
   unfolding isLit litLevels
-  contrast = and-left (contrasts levels) (each (length levels) cleared) lit
+  apart-enough = and-left (contrasts levels) (each (length levels) cleared) lit
 
   all-clear : each (length levels) cleared ≡ true
   unfolding isLit litLevels
   all-clear = and-right (contrasts levels) (each (length levels) cleared) lit
 
-  clear : (k : ℕ) → k < length levels → Clear (middleOf levels) 10 (bit w (length levels - 1 - k)) (getD levels k 0)
+  clear : (k : ℕ) → k < length levels → Clear (middleOf levels) clearance (bit w (length levels - 1 - k)) (getD levels k 0)
   clear k h =
       clear-of (middleOf levels) light dark (getD printing k 0) (bit w (length levels - 1 - k)) (getD levels k 0) apart (bit-lt w (length levels - 1 - k))
       (shades k (subst (λ (n : ℕ). k < n) size h) ∙ ap (λ (n : ℕ). shadeOfBit light dark (bit w (n - 1 - k))) (sym size))
@@ -84,7 +84,7 @@ module _ (family : Family) (codes : List ℕ) (id w : ℕ) (printed : Printed fa
 
   pub lit-read : reading picture seen family codes q ≡ accepted (record { id = id; turn = 0; differing = differing w (getD codes id 0); corners = answerCorners q 0 })
   lit-read =
-      clear-read picture seen family codes q id w taken printed 10 (le-refl 10) (leb-true 50 (greatestOf levels - leastOf levels) contrast) clear
+      clear-read picture seen family codes q id w taken printed clearance (omega arith) (omega (arith, leb-true contrast (greatestOf levels - leastOf levels) apart-enough)) clear
 
 -- ---- a painted tag
 

@@ -30,7 +30,7 @@ use Rattle.painter.specs.declared.Print.{Print}
 use Rattle.painter.proofs.Printable.{good-print}
 use Rattle.reader.specs.Reading.{samples, column, row, levelsOf}
 use Rattle.reader.proofs.Starts.{levels-size}
-use Rattle.paper.specs.Light.{clears, clearsAt, litLevels, isLit}
+use Rattle.paper.specs.Light.{clearance, clears, clearsAt, contrast, litLevels, isLit}
 use Rattle.paper.proofs.Misprints.{Has, has-one, has-zero}
 use Rattle.paper.proofs.Clear.{Taken, Printed}
 use Rattle.paper.proofs.Corners.{print-small, print-within, print-sampled, print-level}
@@ -53,9 +53,9 @@ module _ (light dark level : ℕ) (apart : dark + 50 ≤ light) where
   shade-within (inr e) = (omega arith, omega arith)
 
   shade-clears : (middle : ℕ) → middle ≡ (dark + light + 1) / 2 → (level ≡ light) ⊎ (level ≡ dark) → clears middle (eqb level light) level ≡ true
-  shade-clears middle m (inl e) = ap (λ (t : Bool). clears middle t level) (eq-eqb level light e) ∙ le-leb (middle + 10) level (omega arith)
+  shade-clears middle m (inl e) = ap (λ (t : Bool). clears middle t level) (eq-eqb level light e) ∙ le-leb (middle + clearance) level (omega arith)
   shade-clears middle m (inr e) =
-      ap (λ (t : Bool). clears middle t level) (ne-eqb level light (λ f. omega arith)) ∙ le-leb (level + 10) middle (omega arith)
+      ap (λ (t : Bool). clears middle t level) (ne-eqb level light (λ f. omega arith)) ∙ le-leb (level + clearance) middle (omega arith)
 
 module _ (plane : List ℕ) (frame : Frame) (family : Family) (codes : List ℕ) (id w : ℕ) (print : Print)
     (printed : Printed family codes id w) (p : Printable (length plane) frame (family .edge) (family .border) w print) where
@@ -132,6 +132,6 @@ module _ (plane : List ℕ) (frame : Frame) (family : Family) (codes : List ℕ)
   unfolding isLit litLevels
   own-lit =
       let middle : middleOf levels ≡ (print .dark + print .light + 1) / 2 = ap₂ (λ (x y : ℕ). (x + y + 1) / 2) (range .0) (range .1) in
-      ap₂ _&&_ (le-leb 50 (greatestOf levels - leastOf levels) (omega (arith, apart, range .0, range .1)))
+      ap₂ _&&_ (le-leb contrast (greatestOf levels - leastOf levels) (omega (arith, apart, range .0, range .1)))
       (each-of (length levels) (clearsAt (middleOf levels) (print .light) levels levels)
       (λ k h. shade-clears (print .light) (print .dark) (getD levels k 0) apart (middleOf levels) middle (shades k h)))

@@ -31,18 +31,25 @@ use Rattle.paper.specs.Repeated.{EachOnce}
 
 -- ---- a picture that is lit well enough
 
+-- how far a level has to be from the middle
+abbrev pub clearance : ℕ
+clearance = 10
+
 -- "each light one at least 10 above it", "each sampled dark module is at least 10 below the middle": the level of a module that was painted light, or dark
 abbrev pub clears : (middle : ℕ) → (light : Bool) → (level : ℕ) → Bool
-clears middle true level = leb (middle + 10) level
-clears middle false level = leb (level + 10) middle
+clears middle true level = leb (middle + clearance) level
+clears middle false level = leb (level + clearance) middle
 
 -- of sample k: the painted plane shows the light shade there, or else the dark one
 abbrev pub clearsAt : (middle light : ℕ) → (painted levels : List ℕ) → ℕ → Bool
 clearsAt middle light painted levels k = clears middle (eqb (getD painted k 0) light) (getD levels k 0)
 
 -- "greatest and least are at least 50 apart"
+abbrev pub contrast : ℕ
+contrast = 50
+
 abbrev pub contrasts : List ℕ → Bool
-contrasts levels = leb 50 (greatestOf levels - leastOf levels)
+contrasts levels = leb contrast (greatestOf levels - leastOf levels)
 
 -- both, of the levels at some samples, and of what was painted at each
 unfoldable pub litLevels : (middle light : ℕ) → (painted levels : List ℕ) → Bool

@@ -1,7 +1,9 @@
 // Replays what the original's turn, search, levels, corner test and quad reader answered, its families, lists of quads, paintings of
-// tags and sheets, the limits of documents 01 and 02, and searches with their count of codes compared, against the public entries on
-// tags; what has a picture again with filler between its lines. tools/oracle/README.md says how the files were made.
+// tags and sheets, the limits of documents 01 and 02, searches with their count of codes compared, and pictures of painted tags under
+// uneven light, against the public entries on tags; what has a picture again with filler between its lines. tools/oracle/README.md says
+// how the files were made.
 mod bit_codes;
+mod light;
 mod padded;
 mod paintings;
 mod quads;
@@ -81,6 +83,7 @@ fn replay_quads() {
     replay_file(QUADS, b"readings");
     replay_file(QUADS, b"lists");
     replay_file(QUADS, b"refusals");
+    replay_file(QUADS, b"light");
 }
 
 // The files of pictures at a layout with filler, under a heading that gives the pitch. What is not packed, or has no room so, is
@@ -89,6 +92,7 @@ fn replay_padded(layout: u8, heading: &[u8]) {
     io::write_all(STDOUT_FILENO, heading);
     replay_at(layout, QUADS, b"readings");
     replay_at(layout, QUADS, b"lists");
+    replay_at(layout, QUADS, b"light");
     replay_at(layout, PAINTER, b"paintings");
     replay_at(layout, PAINTER, b"prints");
     replay_at(layout, PAINTER, b"sheets");

@@ -96,7 +96,7 @@ fn starts_alike(s: &[u8], number: u8, plane: &[u8], frame: Frame, quad: Quad) ->
 }
 
 // Six numbers of one byte.
-fn small_print_at(s: &[u8]) -> Print {
+pub fn small_print_at(s: &[u8]) -> Print {
     Print {
         x: u8_at(s, 0) as usize,
         y: u8_at(s, 1) as usize,

@@ -1,4 +1,5 @@
-// Frames of one quad, of a list of quads, and of the corner test. The picture is the frame that was lent, at some layout.
+// Frames of one quad, of a list of quads, of the corner test, and of a painted tag in a picture. The picture is the frame that was lent, at some layout.
+use crate::light;
 use crate::padded;
 use listing::ROW_SIZE;
 use muosleap::detector::try_decode_quad;
@@ -240,6 +241,7 @@ pub fn alike(kind: u8, frame: &[u8], lent: &[u8], layout: u8) -> bool {
         3 => corners_alike(frame),
         4 => quad_number_alike(frame),
         5 => list_number_alike(frame),
+        6 => light::lit_alike(frame, lent, layout),
         _ => false,
     }
 }
