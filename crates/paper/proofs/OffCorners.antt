@@ -25,7 +25,7 @@ use Rattle.painter.proofs.Picture.{pixel-repainted}
 use Rattle.painter.proofs.Printable.{good-print, Good}
 use Rattle.reader.specs.Reading.{samples, column, row, sampleInside, samplesInside, levelsOf}
 use Rattle.paper.specs.Demand3.{Painted}
-use Rattle.paper.specs.OffCorners.{Near, HalfCell, Stays, OffCorners}
+use Rattle.paper.specs.OffCorners.{Near, UnderHalfCell, Stays, OffCorners}
 use Rattle.paper.proofs.Given.{Took, took}
 use Rattle.paper.proofs.Clear.{Taken}
 use Rattle.paper.proofs.Corners.{print-square}
@@ -34,7 +34,7 @@ use Rattle.paper.proofs.Stays.{stays}
 use Rattle.paper.proofs.Lit.{own-shades, found-own}
 
 module _ (family : Family) (codes : List ℕ) (id word : ℕ) (plane : List ℕ) (frame : Frame) (print : Print) (quad : Quad) (shown : List ℕ)
-    (h : Painted family codes id word plane frame print quad shown) (d : ℕ) (small : HalfCell d family print) (found : Quad) (near : Near d found quad) where
+    (h : Painted family codes id word plane frame print quad shown) (e : ℕ) (small : UnderHalfCell e family print) (found : Quad) (near : Near e found quad) where
   tag : Took plane frame (family .edge) (family .border) word print quad shown
   tag = took plane frame (family .edge) (family .border) word print quad shown (h .painted)
 
@@ -48,21 +48,21 @@ module _ (family : Family) (codes : List ℕ) (id word : ℕ) (plane : List ℕ)
   size = sizeOf (family .edge) (family .border) print
 
   stay : (k : ℕ) → k < samples family → Stays family print found k
-  stay = stays (length plane) frame family word print (tag .prints) d small found (subst (Near d found) (tag .quad-is) near)
+  stay = stays (length plane) frame family word print (tag .prints) e small found (subst (Near e found) (tag .quad-is) near)
 
   -- the tag's square lies in the picture
   in-picture : (x y : ℕ) → inBlock (print .x) (print .y) size size x y ≡ true → (x < frame .width) × (y < frame .height)
-  in-picture x y e =
-      let i = is-in (print .x) (print .y) size size x y e in
+  in-picture x y b =
+      let i = is-in (print .x) (print .y) size size x y b in
       (omega (arith, i .across .to, good .placed .right), omega (arith, i .down .to, good .placed .low))
 
   -- and each pixel of it has its cell's shade
   cell-level : (x y : ℕ) → inBlock (print .x) (print .y) size size x y ≡ true → levelAt shown frame x y ≡ shadeOf (family .edge) (family .border) word print (cellOf print x y)
-  cell-level x y e =
-      let i = in-picture x y e in
+  cell-level x y b =
+      let i = in-picture x y b in
       ap (λ (p : List ℕ). levelAt p frame x y) (tag .shown-is)
       ∙ pixel-repainted frame (λ x y old. paintedPixel (family .edge) (family .border) word print x y) plane x y 0 (good .framed) (i .0) (i .1)
-      ∙ ap (λ (t : Bool). cond t (shadeOf (family .edge) (family .border) word print (cellOf print x y)) (print .light)) e
+      ∙ ap (λ (t : Bool). cond t (shadeOf (family .edge) (family .border) word print (cellOf print x y)) (print .light)) b
 
   abbrev level : Quad → ℕ → ℕ
   level q k = levelAt shown frame (column (axesOf q) family k) (row (axesOf q) family k)
@@ -95,7 +95,7 @@ module _ (family : Family) (codes : List ℕ) (id word : ℕ) (plane : List ℕ)
 pub off-corners : OffCorners
 off-corners = record {
   stays = stays;
-  reads = λ family codes id word plane frame print quad shown h d small found near a b.
+  reads = λ family codes id word plane frame print quad shown h e small found near a b.
       found-own family codes id word plane frame print quad shown h found
-      (passed family codes id word plane frame print quad shown h d small found near a b) (shades family codes id word plane frame print quad shown h d small found near);
+      (passed family codes id word plane frame print quad shown h e small found near a b) (shades family codes id word plane frame print quad shown h e small found near);
 }

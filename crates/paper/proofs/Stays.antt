@@ -25,25 +25,25 @@ use Rattle.painter.proofs.Part.{pixel-cell}
 use Rattle.painter.proofs.Printable.{good-print, Good, cells-le}
 use Rattle.painter.proofs.Runs.{Within}
 use Rattle.reader.specs.Reading.{samples, column, row}
-use Rattle.paper.specs.OffCorners.{NearNumber, Near, spread, Stays}
+use Rattle.paper.specs.OffCorners.{NearNumber, Near, UnderHalfCell, Stays}
 use Rattle.paper.proofs.Corners.{half-is, sources, sources-lt, column-start, row-start, cell-in}
 
 -- ---- near quads
 
 -- a quad is near itself
-near-itself : (d : ℕ) (q : Quad) → 0 < d → Near d q q
-near-itself d q h = record {
+near-itself : (e : ℕ) (q : Quad) → Near e q q
+near-itself e q = record {
   corner0 = (same (q .q0 .x), same (q .q0 .y));
   corner1 = (same (q .q1 .x), same (q .q1 .y));
   corner2 = (same (q .q2 .x), same (q .q2 .y));
   corner3 = (same (q .q3 .x), same (q .q3 .y));
 }
   where
-    same : (a : Float) → NearNumber d a a
-    same a = rw (+ℤ-invr (in1024ths a)) h
+    same : (a : Float) → NearNumber e a a
+    same a = rw (+ℤ-invr (in1024ths a)) (omega arith)
 
 -- two that are near stay so if both are turned
-near-turned : {d : ℕ} {a b : Quad} (s : ℕ) → Near d a b → Near d (turnedLeft s a) (turnedLeft s b)
+near-turned : {e : ℕ} {a b : Quad} (s : ℕ) → Near e a b → Near e (turnedLeft s a) (turnedLeft s b)
 unfolding turnedLeft
 near-turned zero n = n
 near-turned (suc s) n = let m = near-turned s n in record { corner0 = m .corner1; corner1 = m .corner2; corner2 = m .corner3; corner3 = m .corner0 }
@@ -60,7 +60,7 @@ half-at : (n : ℕ) → in1024ths (halfBefore n) ≡ halfIn1024ths n
 half-at n = half-1024ths (halfBefore n) n (half-is n)
 
 module _ (len : ℕ) (frame : Frame) (family : Family) (word : ℕ) (print : Print) (p : Printable len frame (family .edge) (family .border) word print)
-    (d : ℕ) (small : d * spread (family .edge) (family .border) ≤ 2048 * sideOf (family .edge) (family .border) * print .cell) where
+    (e : ℕ) (small : UnderHalfCell e family print) where
   abbrev side : ℕ
   side = sideOf (family .edge) (family .border)
 
@@ -97,35 +97,35 @@ module _ (len : ℕ) (frame : Frame) (family : Family) (word : ℕ) (print : Pri
 
   -- along one axis, f the coordinate: a sample that the upright quad has in the middle of the cell from x on
   along : (f : Point → ℤ) (q : Quad) (x k : ℕ) → k < samples family
-      → natAbs (f (q .q0) -ℤ f (upright .q0)) < d → natAbs (f (q .q1) -ℤ f (upright .q1)) < d → natAbs (f (q .q2) -ℤ f (upright .q2)) < d → natAbs (f (q .q3) -ℤ f (upright .q3)) < d
+      → natAbs (f (q .q0) -ℤ f (upright .q0)) ≤ e → natAbs (f (q .q1) -ℤ f (upright .q1)) ≤ e → natAbs (f (q .q2) -ℤ f (upright .q2)) ≤ e → natAbs (f (q .q3) -ℤ f (upright .q3)) ≤ e
       → modulePlace (axisOf (f (upright .q0)) (f (upright .q1)) (f (upright .q2)) (f (upright .q3))) side (family .border + k / family .edge) (family .border + k % family .edge)
       ≡ pos (2048 * side * (2 * x + (print .cell - 1)))
       → Within x (print .cell) (samplePixel (axisOf (f (q .q0)) (f (q .q1)) (f (q .q2)) (f (q .q3))) (family .edge) (family .border) k)
-  along f q x k h n0 n1 n2 n3 e =
-      let s = sample-stays d (f (upright .q0)) (f (upright .q1)) (f (upright .q2)) (f (upright .q3)) (f (q .q0)) (f (q .q1)) (f (q .q2)) (f (q .q3)) n0 n1 n2 n3
-      (family .edge) (family .border) (print .cell) x k h (ok .style .some) small e in
+  along f q x k h n0 n1 n2 n3 place =
+      let s = sample-stays e (f (upright .q0)) (f (upright .q1)) (f (upright .q2)) (f (upright .q3)) (f (q .q0)) (f (q .q1)) (f (q .q2)) (f (q .q3)) n0 n1 n2 n3
+      (family .edge) (family .border) (print .cell) x k h (ok .style .some) small place in
       record { from = s .0; to = s .1 }
 
   -- a quad near the upright one
-  lies-upright : (quad : Quad) → Near d quad upright → (k : ℕ) → k < samples family → LiesAt quad k k
+  lies-upright : (quad : Quad) → Near e quad upright → (k : ℕ) → k < samples family → LiesAt quad k k
   lies-upright q n k h = record {
     across = along (λ p. in1024ths (p .x)) q (print .x + (family .border + k % family .edge) * print .cell) k h (n .corner0 .0) (n .corner1 .0) (n .corner2 .0) (n .corner3 .0) (place-column k);
     down = along (λ p. in1024ths (p .y)) q (print .y + (family .border + k / family .edge) * print .cell) k h (n .corner0 .1) (n .corner1 .1) (n .corner2 .1) (n .corner3 .1) (place-row k);
   }
 
   -- a quad near the print's: turned back, by three times the print's turn, it is near the upright one
-  lies : (quad : Quad) → Near d quad (printQuad (family .edge) (family .border) print) → (k : ℕ) → k < samples family
+  lies : (quad : Quad) → Near e quad (printQuad (family .edge) (family .border) print) → (k : ℕ) → k < samples family
       → LiesAt quad k (sources (family .edge) (print .turn) k)
   lies quad n k h =
       let t = print .turn in
       let back = turnedLeft (3 * t) quad in
-      let near : Near d back upright = subst (Near d back) (turned-back (3 * t) t upright (omega arith)) (near-turned (3 * t) n) in
+      let near : Near e back upright = subst (Near e back) (turned-back (3 * t) t upright (omega arith)) (near-turned (3 * t) n) in
       let s = sources (family .edge) t k in
       let there = lies-upright back near s (sources-lt (family .edge) t k h) in
       subst (λ (q : Quad). LiesAt q k s) (turned-back t (3 * t) quad (omega arith)) (rw (column-start family back t k h, row-start family back t k h) there)
 
   -- so a sample lies in the tag's square, and in the cell that the print's own quad, which is near itself, has it in
-  pub stays : (quad : Quad) → Near d quad (printQuad (family .edge) (family .border) print) → (k : ℕ) → k < samples family → Stays family print quad k
+  pub stays : (quad : Quad) → Near e quad (printQuad (family .edge) (family .border) print) → (k : ℕ) → k < samples family → Stays family print quad k
   stays quad n k h =
       let own = printQuad (family .edge) (family .border) print in
       let size = sizeOf (family .edge) (family .border) print in
@@ -134,7 +134,7 @@ module _ (len : ℕ) (frame : Frame) (family : Family) (word : ℕ) (print : Pri
       let r = family .border + s / family .edge in
       let c = family .border + s % family .edge in
       let a = lies quad n k h in
-      let b = lies own (near-itself d own (omega arith)) k h in
+      let b = lies own (near-itself e own) k h in
       let across = cells-le c side (print .cell) (omega (arith, i .columns)) in
       let down = cells-le r side (print .cell) (omega (arith, i .rows)) in
       record {

@@ -120,28 +120,22 @@ pixel-stays side (suc b) x z S C h =
     let l : natAbs (z -ℤ pos (2048 * side * (2 * x + b))) < 2048 * side * suc b = rw e at h in
     near-middle side b x z S (diff-near (diff-minus (diff z) (diff-pos (2048 * side * (2 * x + b)))) l)
 
--- ---- a sample that corners q put in the middle of its cell, put by corners p that are each fewer than d off: it stays in that cell
+-- ---- a sample that corners q put in the middle of its cell, put by corners p that are each at most e off: it stays in that cell
 
 -- U and V of the modules inside the border
 middle-inside : (edge border n : ℕ) → n < edge → natAbs (fromMiddle (sideOf edge border) (border + n)) ≤ edge - 1
 middle-inside edge border n h = diff-abs (edge - 1) (middle (sideOf edge border) (border + n)) (omega arith) (omega arith)
 
-one-less : (d n : ℕ) → 0 < d → 0 < n → (d - 1) * n < d * n
-one-less zero n D N = absurd (omega arith)
-one-less (suc e) n D N = let f : suc e - 1 ≡ e = omega arith in rw f (omega arith)
-
-module _ (d : ℕ) (q0 q1 q2 q3 p0 p1 p2 p3 : ℤ) (n0 : natAbs (p0 -ℤ q0) < d) (n1 : natAbs (p1 -ℤ q1) < d) (n2 : natAbs (p2 -ℤ q2) < d) (n3 : natAbs (p3 -ℤ q3) < d) where
+module _ (e : ℕ) (q0 q1 q2 q3 p0 p1 p2 p3 : ℤ) (n0 : natAbs (p0 -ℤ q0) ≤ e) (n1 : natAbs (p1 -ℤ q1) ≤ e) (n2 : natAbs (p2 -ℤ q2) ≤ e) (n3 : natAbs (p3 -ℤ q3) ≤ e) where
   pub sample-stays : (edge border c x k : ℕ) → k < edge * edge → 0 < c
-      → let side = sideOf edge border in d * max (4 * side) (2 * side + 4 * (edge - 1)) ≤ 2048 * side * c
+      → let side = sideOf edge border in e * max (4 * side) (2 * side + 4 * (edge - 1)) < 2048 * side * c
       → modulePlace (axisOf q0 q1 q2 q3) side (border + k / edge) (border + k % edge) ≡ pos (2048 * side * (2 * x + (c - 1)))
       → let pixel = samplePixel (axisOf p0 p1 p2 p3) edge border k in (x ≤ pixel) × (pixel < x + c)
   sample-stays edge border c x k h C small place =
       let side = sideOf edge border in
-      let n = max (4 * side) (2 * side + 4 * (edge - 1)) in
       let r = square-row edge k h in
-      let off = place-off (d - 1) q0 q1 q2 q3 p0 p1 p2 p3 (omega arith) (omega arith) (omega arith) (omega arith) side (edge - 1) (border + k / edge) (border + k % edge) (omega arith)
+      let off = place-off e q0 q1 q2 q3 p0 p1 p2 p3 n0 n1 n2 n3 side (edge - 1) (border + k / edge) (border + k % edge) (omega arith)
       (middle-inside edge border (k / edge) r) (middle-inside edge border (k % edge) (square-column edge k h)) in
-      let less = one-less d n (omega arith) (omega arith) in
       let z = modulePlace (axisOf p0 p1 p2 p3) side (border + k / edge) (border + k % edge) in
       let near : natAbs (z -ℤ modulePlace (axisOf q0 q1 q2 q3) side (border + k / edge) (border + k % edge)) < 2048 * side * c = omega arith in
       pixel-stays side c x z (omega arith) C (rw place at near)
