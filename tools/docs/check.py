@@ -10,6 +10,8 @@ check.py --write  first writes the list of definitions in docs/ARCHITECTURE.md a
 3. The tables of turned places: those of the code (crates/word/src/sources.rt) and the squares of docs/TURNING.md, number by
    number, are what the program `turning` printed from the formula (crates/turning/stdout), and so are the places of the
    page's example.
+4. docs/LIGHT.md: the example's square is 231B, its levels have the middle that the page gives and clear it as painted; the
+   table of corners that are off is what its formula gives.
 """
 import re
 import sys
@@ -17,10 +19,14 @@ from itertools import zip_longest
 from pathlib import Path
 
 ROOT = Path(__file__).resolve().parents[2]
-ROOTS = ["muosleap", "muosleap_paint", "muosleap_picture", "muosleap_report", "muosleap_c", "paper", "demand3", "listed_report", "readbits_lines", "turning_lines"]
+ROOTS = ["muosleap", "muosleap_paint", "muosleap_picture", "muosleap_report", "muosleap_c", "paper", "demand3", "listed_report", "lit_reading", "readbits_lines",
+         "turning_lines"]
 ARCHITECTURE = ROOT / "docs/ARCHITECTURE.md"
 TRACE = ROOT / "docs/TRACE.md"
 TURNING = ROOT / "docs/TURNING.md"
+LIGHT = ROOT / "docs/LIGHT.md"
+# edge and border of the families, in their order
+SIDES = [(4, 2), (5, 2), (5, 2), (6, 2), (6, 1)]
 SOURCES = ROOT / "crates/word/src/sources.rt"
 PRINTED = ROOT / "crates/turning/stdout"
 LIST = re.compile(r"(?<=<!-- definitions -->\n).*?(?=<!-- end -->)", re.S)
@@ -118,6 +124,25 @@ def misturned():
         yield "docs/TURNING.md: the example's places are not the bits of 7D01"
 
 
+def mislit():
+    """Where docs/LIGHT.md's example and table are not what its own sentences say."""
+    page = LIGHT.read_text(encoding="utf8")
+    painted, levels = (numbers(square) for square in re.findall(r"```\n((?:[ \d]+\n){4})```", page))
+    if sum(bit << 15 - place for place, bit in enumerate(painted)) != 0x231B:
+        yield "docs/LIGHT.md: the example's square is not 231B"
+    least, greatest = min(levels), max(levels)
+    middle = (least + greatest + 1) // 2
+    if f"The least is {least}, the greatest {greatest}, the middle {middle}." not in page or greatest - least < 50:
+        yield "docs/LIGHT.md: the example's least, greatest and middle are other numbers"
+    if any(level < middle + 10 if light else level > middle - 10 for light, level in zip(painted, levels, strict=True)):
+        yield "docs/LIGHT.md: a level of the example does not clear the middle"
+    cells = numbers(re.search(r"^\| family \|(.*)\| of a cell \|$", page, re.M)[1])
+    rows = [numbers(row) for row in re.findall(r"^\| T\d+H\d+(?:B1)? \|(.*)\| less than .*\|$", page, re.M)]
+    sides = [(edge, edge + 2 * border) for edge, border in SIDES]
+    if rows != [[(2048 * side * cell - 1) // max(4 * side, 2 * side + 4 * (edge - 1)) for cell in cells] for edge, side in sides]:
+        yield "docs/LIGHT.md: the table of corners is not what the formula gives"
+
+
 def main():
     found = definitions()
     text = ARCHITECTURE.read_text(encoding="utf8")
@@ -129,6 +154,7 @@ def main():
         wrong.append("docs/ARCHITECTURE.md: the list of definitions is not the tree's; tools/docs/check.py --write writes it anew")
     wrong += [f"docs/TRACE.md: no `{name}` in the tree" for name in untraced()]
     wrong += misturned()
+    wrong += mislit()
     print("\n".join(wrong) or "documents: as the tree has it")
     return 1 if wrong else 0
 
