@@ -8,7 +8,7 @@ use lib.Ieee.{Float}
 use lib.ListN.{length}
 use Rattle.lists.proofs.Bools.{and-left, and-right}
 use Rattle.refusals.specs.Outcome.{Outcome, accepted, Done}
-use Rattle.refusals.specs.Pixels.{badFrame}
+use Rattle.refusals.specs.Pixels.{badFrame, atPitch}
 use Rattle.refusals.specs.declared.Frame.{Frame}
 use Rattle.points.specs.declared.Quad.{Quad}
 use Rattle.points.specs.Numbers.{quadAt}
@@ -27,10 +27,12 @@ use Rattle.muosleap_paint.specs.PaintSheet.{SheetPainting, paintingOf, paintShe
 use Rattle.muosleap_paint.proofs.PaintTag.{paint-done, paint-accepted}
 use Rattle.paper.specs.Sheet.{SheetPainted}
 use Rattle.paper.specs.Light.{isLit, Lit}
-use Rattle.paper.proofs.Corners.{print-small, print-sampled}
+use Rattle.paper.proofs.Corners.{print-small}
+use Rattle.paper.proofs.Stays.{print-sampled}
 use Rattle.paper.proofs.Sheet.{tag, word, prints, written-is, good-shown}
 use Rattle.paper.proofs.Light.{light}
-use Rattle.lit_reading.specs.Said.{Sampleable, atPitch, litPicture, litPrint, readPicture, LitThenRead, litSheet, readSheetPicture, SheetLitThenRead}
+use Rattle.lit_reading.specs.Said.{litPicture, litPrint, readPicture, LitThenRead, litSheet, readSheetPicture, SheetLitThenRead}
+use Rattle.lit_reading.specs.Sampleable.{Sampleable}
 
 -- a picture that was found to be lit
 lit-is : (shown : List ℕ) (frame : Frame) (shade : ℕ) (family : Family) (quad : Quad) (picture : List ℕ) (pitch : ℕ)
@@ -82,8 +84,8 @@ lit-then-read plane frame family codes w print picture pitch s painting left lit
           let took : painting ≡ accepted quad = ap (λ (x : Painting). x .answer) both in
           let yes : litPicture painted frame (print .light) family quad picture pitch ≡ true =
           sym (l ∙ ap₂ (λ (p : List ℕ) (o : Outcome Quad). litPrint frame family print picture pitch p o) same took) ∙ found in
-          r ∙ ap (readPicture frame family codes picture pitch s) took
-          ∙ light .tags family codes id w plane frame print quad painted h picture (atPitch frame pitch) (lit-is painted frame (print .light) family quad picture pitch yes) s start .alone;
+          let law = light .tags family codes id w plane frame print quad painted h picture (atPitch frame pitch) (lit-is painted frame (print .light) family quad picture pitch yes) s start in
+          (r ∙ ap (readPicture frame family codes picture pitch s) took ∙ law .alone, law);
     }
 
 -- ---- a sheet
@@ -115,5 +117,5 @@ module _ (plane : List ℕ) (frame : Frame) (family : Family) (codes : List ℕ)
             sym (l ∙ ap (litSheet frame family print position picture pitch left written) done) ∙ found in
             let law = light .sheet-tags family codes grid print plane frame quads left written painted passes position known picture (atPitch frame pitch)
             (lit-is left frame (print .light) family (quadAt written position) picture pitch yes) s start in
-            r ∙ ap (readSheetPicture frame family codes position picture pitch s written) done ∙ law .0 .alone ∙ ap accepted (law .1);
+            (r ∙ ap (readSheetPicture frame family codes position picture pitch s written) done ∙ law .0 .alone ∙ ap accepted (law .1), law .0);
       }

@@ -5,46 +5,28 @@ use mathlib.Core.Bool.{Bool, true, false, not, _&&_}
 use mathlib.Core.List.{List}
 use Prim.Native.Nat.{ℕ, _<_}
 use lib.Ieee.{Float}
-use lib.ListN.{length}
+use lib.ListN.{length, getD}
 use Rattle.refusals.specs.Outcome.{Outcome, accepted, refused, Done}
-use Rattle.refusals.specs.Pixels.{badFrame}
+use Rattle.refusals.specs.Pixels.{badFrame, atPitch}
 use Rattle.refusals.specs.declared.Frame.{Frame}
 use Rattle.points.specs.declared.Quad.{Quad}
 use Rattle.points.specs.Turned.{turnedLeft}
 use Rattle.points.specs.Numbers.{quadAt}
 use Rattle.tables.specs.declared.Family.{Family}
-use Rattle.places.specs.Corners.{badCorners}
-use Rattle.places.specs.Place.{axesOf}
 use Rattle.painter.specs.declared.Print.{Print}
 use Rattle.grid.specs.declared.Grid.{Grid}
-use Rattle.reader.specs.Reading.{samplesInside, Tag}
-use Rattle.reader.specs.Sampling.{Readable}
+use Rattle.reader.specs.Reading.{Tag}
 use Rattle.muosleap.specs.Quad.{decodeQuad}
 use Rattle.muosleap_paint.specs.PaintTag.{paintTag}
 use Rattle.muosleap_paint.specs.PaintSheet.{paintSheet}
-use Rattle.paper.specs.Demand3.{Passes, Painted, printOrder, ownTurn, ownTag}
+use Rattle.paper.specs.Demand3.{Passes, Painted, printOrder, ownTurn, ownTag, ReadsOwn}
 use Rattle.paper.specs.Light.{isLit}
 
--- all samples of a quad can be taken on a plane, as those of the painter's quad can
-pub record Sampleable (plane : List ℕ) (frame : Frame) (family : Family) (quad : Quad) : Type 0 where
-  pub readable : Readable plane frame family
-  pub small : badCorners quad ≡ false
-  pub inside : samplesInside frame family (axesOf quad) ≡ true
-
--- the painted plane's width and height, at the picture's own pitch
-abbrev pub atPitch : Frame → ℕ → Frame
-atPitch frame pitch = record { width = frame .width; height = frame .height; pitch = pitch }
-
--- whether the samples of a quad are lit well enough in a picture; not where it is no picture that refusal 1 lets through
+-- whether the samples of a quad are lit well enough in a picture of the painted plane's width and height, at a pitch of its own; not where it is no
+-- picture that refusal 1 lets through
 abbrev pub litPicture : (shown : List ℕ) → Frame → (light : ℕ) → Family → Quad → (picture : List ℕ) → (pitch : ℕ) → Bool
 litPicture shown frame light family quad picture pitch =
     not (badFrame (length picture) (atPitch frame pitch)) && isLit shown frame light family quad picture (atPitch frame pitch)
-
--- a painted quad is looked at in a picture, and its start s read there
-pub record PictureRead (shown : List ℕ) (frame : Frame) (light : ℕ) (family : Family) (codes : List ℕ) (quad : Quad) (picture : List ℕ) (pitch s : ℕ)
-    (lit : Bool) (answer : Outcome Tag) : Type 0 where
-  pub worked-out : lit ≡ litPicture shown frame light family quad picture pitch
-  pub read : answer ≡ decodeQuad picture (atPitch frame pitch) family codes (turnedLeft s quad)
 
 -- ---- a tag
 
@@ -66,9 +48,10 @@ pub record LitThenRead (plane : List ℕ) (frame : Frame) (family : Family) (cod
   pub worked-out : lit ≡ litPrint frame family print picture pitch left (paintTag plane frame (family .edge) (family .border) word print .answer)
   -- the answer is the quad reader's on the picture, or the painter's refusal
   pub read : answer ≡ readPicture frame family codes picture pitch s (paintTag plane frame (family .edge) (family .border) word print .answer)
-  -- the guarantee: a tag painted under demand 3's conditions, in a picture in which it is so lit, is read as demand 3 says of the painter's own plane
+  -- the guarantee: a tag painted under demand 3's conditions, in a picture in which it is so lit, is read as demand 3 says of the painter's own plane;
+  -- so it is in every accepted list reading of the picture, too
   pub own : (id : ℕ) (quad : Quad) (painted : List ℕ) → Painted family codes id word plane frame print quad painted → s < 4 → lit ≡ true
-      → answer ≡ accepted (ownTag codes id word quad s)
+      → (answer ≡ accepted (ownTag codes id word quad s)) × ReadsOwn family codes id word (atPitch frame pitch) quad picture s
 
 -- ---- a sheet
 
@@ -89,4 +72,5 @@ pub record SheetLitThenRead (plane : List ℕ) (frame : Frame) (family : Family)
   pub read : answer ≡ readSheetPicture frame family codes position picture pitch s written (paintSheet plane frame family codes grid print quads .answer)
   -- the guarantee: "The same for each tag of a painted sheet", whatever the rest of the picture shows
   pub own : paintSheet plane frame family codes grid print quads .answer ≡ accepted (record {}) → Passes family codes → s < 4 → lit ≡ true
-      → answer ≡ accepted (record { id = position; turn = ownTurn s; differing = 0; corners = printOrder (quadAt written position) })
+      → (answer ≡ accepted (record { id = position; turn = ownTurn s; differing = 0; corners = printOrder (quadAt written position) }))
+      × ReadsOwn family codes position (getD codes position 0) (atPitch frame pitch) (quadAt written position) picture s

@@ -2,7 +2,9 @@
 // they are lent, and read them there. They are no public entries. specs/Said.antt says what is proved of them.
 use grid::Grid;
 use muosleap_paint::painting::Painted;
+use muosleap_paint::painting::paint_tag;
 use muosleap_paint::sheet::Sheet;
+use muosleap_paint::sheet::paint_sheet;
 use painter::Print;
 use points::Quad;
 use reader::Reading;
@@ -16,19 +18,20 @@ ghost use Rattle.levels.specs.Levels.{middleOf};
 ghost use Rattle.grid.specs.Quads.{tagCount};
 ghost use Rattle.reader.specs.Answer.{paperReading};
 ghost use Rattle.paper.specs.Light.{clears, clearsAt, litLevels, isLit};
-ghost use Rattle.lit_reading.specs.Said.{Sampleable, PictureRead, LitThenRead, SheetLitThenRead};
+ghost use Rattle.lit_reading.specs.Said.{LitThenRead, SheetLitThenRead};
+ghost use Rattle.lit_reading.specs.Sampleable.{Sampleable, PictureRead};
 
-// A reading of a picture, and whether its samples are lit well enough to be sure of it.
+// A reading of a picture, and whether the painted tag's samples are lit there as ticket 8 asks.
 pub struct LitReading {
     pub lit: bool,
     pub reading: Reading,
 }
 
 // A level is at least 10 above the middle where its module was painted light, at least 10 below it where it was painted dark.
-fn level_clears(middle: u8, light: bool, level: u8) -> bool
-    ensures { λ r. ⌜ r ≡ clears middle light level ⌝ }
+fn level_clears(middle: u8, painted_light: bool, level: u8) -> bool
+    ensures { λ r. ⌜ r ≡ clears middle «painted_light» level ⌝ }
 {
-    if light {
+    if painted_light {
         return middle as u32 + 10 <= level as u32;
     }
     level as u32 + 10 <= middle as u32
@@ -128,14 +131,7 @@ pub fn paint_then_read_lit(
     ensures { λ r. ⌜ LitThenRead (now (plane .entry)) frame family (now (codes .entry)) word print (now (picture .entry)) pitch start
         (r .lit) (paperReading (r .reading)) (now (plane .exit)) ⌝ }
 {
-    let painted = muosleap_paint::painting::paint_tag(
-        plane,
-        frame,
-        family.edge,
-        family.border,
-        word,
-        print,
-    );
+    let painted = paint_tag(plane, frame, family.edge, family.border, word, print);
     match painted {
         Painted::Refused(n) => LitReading {
             lit: false,
@@ -174,7 +170,7 @@ pub fn paint_sheet_then_read_lit(
     ensures { λ r. ⌜ SheetLitThenRead (now (plane .entry)) frame family (now (codes .entry)) grid print (now (quads .entry)) position (now (picture .entry)) pitch start
         (r .lit) (paperReading (r .reading)) (now (plane .exit)) (now (quads .exit)) ⌝ }
 {
-    let sheet = muosleap_paint::sheet::paint_sheet(plane, frame, family, codes, grid, print, quads);
+    let sheet = paint_sheet(plane, frame, family, codes, grid, print, quads);
     match sheet {
         Sheet::Refused(n) => LitReading {
             lit: false,

@@ -2,7 +2,7 @@
 use mathlib.Core.Path.{_≡_, refl, ap, _∙_}
 use mathlib.Core.Bool.{Bool, cond}
 use mathlib.Core.List.{List}
-use Prim.Native.Nat.{ℕ, _+_, _*_, _/_, _<_}
+use Prim.Native.Nat.{ℕ, _+_, _*_, _<_}
 use native.Mathlib.Omega.{arith}
 use lib.ListN.{length, getD}
 use Rattle.refusals.specs.declared.Frame.{Frame}
@@ -51,13 +51,3 @@ module _ (edge border word : ℕ) (print : Print) (u v d d′ : ℕ) (hu : u < s
       pixel-repainted frame (λ x y old. paintedPixel edge border word print x y) plane x y 0 (g .framed)
       (omega (arith, cell-inside p u hu .across)) (omega (arith, cell-inside p v hv .down))
       ∙ cell-pixel (print .light)
-
--- the pixel in a cell's middle, or the later one of two
-pub painted-middle : (edge border word : ℕ) (print : Print) (u v : ℕ) (frame : Frame) (plane : List ℕ) → u < sideOf edge border → v < sideOf edge border
-    → Printable (length plane) frame edge border word print
-    → getD (painted frame edge border word print plane) (placeOf frame (print .x + u * print .cell + print .cell / 2) (print .y + v * print .cell + print .cell / 2)) 0
-    ≡ shadeOf edge border word print (cellAt v u)
-painted-middle edge border word print u v frame plane hu hv p =
-    let some = good-print p .style .some in
-    let h : print .cell / 2 < print .cell = omega arith in
-    painted-cell edge border word print u v (print .cell / 2) (print .cell / 2) hu hv h h frame plane p

@@ -42,7 +42,7 @@ pub record Printed (family : Family) (codes : List ℕ) (id w : ℕ) : Type 0 wh
 
 module _ (plane : List ℕ) (frame : Frame) (family : Family) (codes : List ℕ) (q : Quad) (id w : ℕ) (taken : Taken frame family q) (printed : Printed family codes id w) where
   -- the levels show the word: the tag is read under its own number, at turn 0, with its misprints
-  pub word-read : codeOf (levelsOf plane frame family (axesOf q)) 10 3 ≡ accepted w
+  word-read : codeOf (levelsOf plane frame family (axesOf q)) 10 3 ≡ accepted w
       → reading plane frame family codes q ≡ accepted (record { id = id; turn = 0; differing = differing w (getD codes id 0); corners = answerCorners q 0 })
   unfolding tagOf turns
   word-read e =
@@ -51,7 +51,7 @@ module _ (plane : List ℕ) (frame : Frame) (family : Family) (codes : List ℕ)
       ∙ ap (withCorners q) (near-read (family .edge) (family .«hamming_distance») codes (good-table family codes (printed .table) .coded)
       (unlike (family .edge) (family .«hamming_distance») codes (printed .passes)) w 0 id (printed .square) (zero-lt-suc 3) (printed .known) (printed .near))
 
-  pub square-word : word (samples family) (bit w) ≡ w
+  square-word : word (samples family) (bit w) ≡ w
   square-word = word-mod (samples family) w ∙ mod-eq-of-lt (printed .square)
 
   -- "each sampled dark module is at least 10 below the middle, each light one at least 10 above it, and greatest and least are at

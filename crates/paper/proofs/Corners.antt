@@ -1,48 +1,44 @@
--- The painter's quad passes 8, 9 and 10, and its samples are the modules of the print, each in the middle of its cell. Assumes nothing.
-use mathlib.Core.Path.{_≡_, refl, sym, ap, ap₂, _∙_, subst}
-use mathlib.Core.Bool.{Bool, true, false, _&&_, cond}
-use mathlib.Core.List.{List}
+-- The painter's quad passes 8 and 9. From its other starts it takes the same samples in another order. Assumes nothing.
+use mathlib.Core.Path.{_≡_, refl, ap, ap₂, _∙_}
+use mathlib.Core.Bool.{Bool, false}
 use Prim.Native.Nat.{ℕ, zero, suc, _+_, _-_, _*_, _/_, _%_, _≤_, _<_}
-use native.Mathlib.Nat.{div-add-mod', mul-comm}
 use native.Mathlib.Omega.{arith}
-use borrow.Author.Tests.{lt-leb, lt-ltb}
+use borrow.Author.Tests.{lt-leb}
 use lib.Arith.{digits-div, digits-mod}
-use lib.Dec.{leb, eqb}
-use lib.ListN.{length}
+use lib.Dec.{leb}
 use Rattle.lists.proofs.Bools.{or-neither}
 use Rattle.lists.proofs.Grid.{square-row, square-column}
-use Rattle.lists.proofs.Each.{each-of}
-use Rattle.refusals.specs.Pixels.{levelAt}
 use Rattle.refusals.specs.declared.Frame.{Frame}
 use Rattle.points.specs.declared.Point.{Point}
 use Rattle.points.specs.declared.Quad.{Quad}
 use Rattle.points.specs.Turned.{turnedLeft, anyCorner}
 use Rattle.tables.specs.declared.Family.{Family}
-use Rattle.word.specs.Word.{bit, source}
+use Rattle.word.specs.Word.{source}
 use Rattle.word.proofs.Turn.{source-lt}
-use Rattle.places.specs.Rounding.{badCoordinate, pixelOf}
+use Rattle.places.specs.Rounding.{badCoordinate, pixelOf, in1024ths}
 use Rattle.places.specs.Corners.{badCorner, badCorners, cornerOutside, cornersOutside}
-use Rattle.places.specs.Place.{axisOf, axesOf, modulePixel}
-use Rattle.places.proofs.Painted.{HalfBefore, half-1024ths, half-pixel, half-good, painted-across, painted-down}
+use Rattle.places.specs.Place.{axesOf}
+use Rattle.places.proofs.Painted.{HalfBefore, halfBefore as halfIn1024ths, half-1024ths, half-pixel, half-good}
 use Rattle.places.proofs.Turned.{bad-turned, outside-turned}
 use Rattle.painter.specs.Corners.{halfBefore, outerCorners, printQuad}
-use Rattle.painter.specs.Picture.{inBlock}
 use Rattle.painter.specs.Printable.{Printable}
-use Rattle.painter.specs.Tag.{sideOf, sizeOf, cellAt, turnedCell, moduleBit, shadeOf, quarter, painted}
+use Rattle.painter.specs.Tag.{sizeOf, cellAt, turnedCell, quarter}
 use Rattle.painter.specs.declared.Cell.{Cell}
 use Rattle.painter.specs.declared.Print.{Print}
-use Rattle.painter.proofs.Block.{is-in, block-in}
 use Rattle.painter.proofs.Half.{half-zero, half-suc}
-use Rattle.painter.proofs.Painted.{painted-middle}
-use Rattle.painter.proofs.Printable.{good-print, Good, cells-le}
-use Rattle.painter.proofs.Turned.{quarter-back, inset, module-shade, CellIn}
-use Rattle.reader.specs.Reading.{samples, column, row, sampleInside, samplesInside}
-use Rattle.reader.proofs.Starts.{column-turned, row-turned, inside-start}
+use Rattle.painter.proofs.Printable.{good-print, Good}
+use Rattle.painter.proofs.Turned.{quarter-back, CellIn}
+use Rattle.reader.specs.Reading.{samples, column, row}
+use Rattle.reader.proofs.Starts.{column-turned, row-turned}
 
 -- the painter's coordinate lies half a pixel before pixel n
-pub half-is : (n : ℕ) → HalfBefore (halfBefore n) n
+half-is : (n : ℕ) → HalfBefore (halfBefore n) n
 half-is zero = half-zero
 half-is (suc n) = half-suc n
+
+-- in 1024ths
+pub half-at : (n : ℕ) → in1024ths (halfBefore n) ≡ halfIn1024ths n
+half-at n = half-1024ths (halfBefore n) n (half-is n)
 
 -- ---- 8 and 9
 
@@ -114,14 +110,14 @@ row-start family q zero k h = refl
 row-start family q (suc t) k h = row-turned family (turnedLeft t q) k h ∙ row-start family q t (source (family .edge) k) (source-lt (family .edge) k h)
 
 -- the cell of place k of the square
-abbrev cell-of : ℕ → ℕ → Cell
+abbrev pub cell-of : ℕ → ℕ → Cell
 cell-of e k = cellAt (k / e) (k % e)
 
 pub cell-in : (e k : ℕ) → k < e * e → CellIn e (cell-of e k)
 cell-in e k h = record { rows = square-row e k h; columns = square-column e k h }
 
 -- the turned print shows its own module k there
-cell-back : (e t k : ℕ) → k < e * e → turnedCell e t (cell-of e (sources e t k)) ≡ cell-of e k
+pub cell-back : (e t k : ℕ) → k < e * e → turnedCell e t (cell-of e (sources e t k)) ≡ cell-of e k
 unfolding turnedCell sources
 cell-back e zero k h = refl
 cell-back e (suc t) k h =
@@ -129,89 +125,3 @@ cell-back e (suc t) k h =
     let c : e - 1 - k / e < e = omega (arith, i .rows) in
     ap (quarter e) (cell-back e t (source e k) (source-lt e k h) ∙ ap₂ cellAt (digits-div (k % e) c) (digits-mod (k % e) c))
     ∙ quarter-back e (k / e) (k % e) (i .rows)
-
-module _ (len : ℕ) (frame : Frame) (family : Family) (word : ℕ) (print : Print) (p : Printable len frame (family .edge) (family .border) word print) where
-  abbrev side : ℕ
-  side = sideOf (family .edge) (family .border)
-
-  abbrev upright : Quad
-  upright = outerCorners (family .edge) (family .border) print
-
-  ok : Good len frame (family .edge) (family .border) word print
-  ok = good-print p
-
-  side-pos : 0 < sideOf (family .edge) (family .border)
-  side-pos = omega (arith, ok .edges .least)
-
-  column-upright : (k : ℕ) → column (axesOf upright) family k ≡ print .x + (family .border + k % family .edge) * print .cell + print .cell / 2
-  column-upright k =
-      let left = half-1024ths (halfBefore (print .x)) (print .x) (half-is (print .x)) in
-      let right = half-1024ths (halfBefore (print .x + side * print .cell)) (print .x + side * print .cell) (half-is (print .x + side * print .cell)) in
-      ap₂ (λ a b. modulePixel (axisOf a b b a) side (family .border + k / family .edge) (family .border + k % family .edge)) left right
-      ∙ painted-across (print .x) side (print .cell) (family .border + k / family .edge) (family .border + k % family .edge) (ok .style .some) side-pos
-      ∙ ap (λ (n : ℕ). print .x + n + print .cell / 2) (mul-comm (print .cell) (family .border + k % family .edge))
-
-  row-upright : (k : ℕ) → row (axesOf upright) family k ≡ print .y + (family .border + k / family .edge) * print .cell + print .cell / 2
-  row-upright k =
-      let top = half-1024ths (halfBefore (print .y)) (print .y) (half-is (print .y)) in
-      let bottom = half-1024ths (halfBefore (print .y + side * print .cell)) (print .y + side * print .cell) (half-is (print .y + side * print .cell)) in
-      ap₂ (λ a b. modulePixel (axisOf a a b b) side (family .border + k / family .edge) (family .border + k % family .edge)) top bottom
-      ∙ painted-down (print .y) side (print .cell) (family .border + k / family .edge) (family .border + k % family .edge) (ok .style .some) side-pos
-      ∙ ap (λ (n : ℕ). print .y + n + print .cell / 2) (mul-comm (print .cell) (family .border + k / family .edge))
-
-  -- a sample lies in the middle of its cell, so in the tag's square
-  square-upright : (k : ℕ) → k < samples family → let size = sizeOf (family .edge) (family .border) print in
-      inBlock (print .x) (print .y) size size (column (axesOf upright) family k) (row (axesOf upright) family k) ≡ true
-  square-upright k h =
-      let i = cell-in (family .edge) k h in
-      let size = sizeOf (family .edge) (family .border) print in
-      let across = cells-le (family .border + k % family .edge) (sideOf (family .edge) (family .border)) (print .cell) (omega (arith, i .columns)) in
-      let down = cells-le (family .border + k / family .edge) (sideOf (family .edge) (family .border)) (print .cell) (omega (arith, i .rows)) in
-      ap₂ (inBlock (print .x) (print .y) size size) (column-upright k) (row-upright k)
-      ∙ block-in (print .x) (print .y) size size _ _ (omega arith) (omega (arith, across, ok .style .some)) (omega arith) (omega (arith, down, ok .style .some))
-
-  pub print-square : (k : ℕ) → k < samples family → let q = axesOf (printQuad (family .edge) (family .border) print) in let size = sizeOf (family .edge) (family .border) print in
-      inBlock (print .x) (print .y) size size (column q family k) (row q family k) ≡ true
-  print-square k h =
-      let size = sizeOf (family .edge) (family .border) print in
-      ap₂ (inBlock (print .x) (print .y) size size) (column-start family upright (print .turn) k h) (row-start family upright (print .turn) k h)
-      ∙ square-upright (sources (family .edge) (print .turn) k) (sources-lt (family .edge) (print .turn) k h)
-
-  -- 10: the tag's square lies in the picture
-  inside-upright : (k : ℕ) → k < samples family → sampleInside frame family (axesOf upright) k ≡ true
-  inside-upright k h =
-      let size = sizeOf (family .edge) (family .border) print in
-      let x = column (axesOf upright) family k in
-      let y = row (axesOf upright) family k in
-      let i = is-in (print .x) (print .y) size size x y (square-upright k h) in
-      ap₂ _&&_ (lt-ltb x (frame .width) (omega (arith, i .across .to, ok .placed .right))) (lt-ltb y (frame .height) (omega (arith, i .down .to, ok .placed .low)))
-
-  pub print-sampled : samplesInside frame family (axesOf (printQuad (family .edge) (family .border) print)) ≡ true
-  unfolding samplesInside
-  print-sampled = inside-start family upright frame (print .turn) ∙ each-of (samples family) (sampleInside frame family (axesOf upright)) inside-upright
-
-  -- ---- the level of sample k is the shade of module k of the word
-  module _ (plane : List ℕ) (whole : length plane ≡ len) where
-    bit-at : (k : ℕ) → moduleBit (family .edge) word (k / family .edge) (k % family .edge) ≡ bit word (family .edge * family .edge - 1 - k)
-    bit-at k = ap (λ (n : ℕ). bit word (family .edge * family .edge - 1 - n)) (div-add-mod' k (family .edge))
-
-    level-upright : (k : ℕ) → k < samples family
-        → levelAt (painted frame (family .edge) (family .border) word print plane) frame (column (axesOf upright) family k) (row (axesOf upright) family k)
-        ≡ shadeOf (family .edge) (family .border) word print (inset (family .border) (cell-of (family .edge) k))
-    level-upright k h =
-        let i = cell-in (family .edge) k h in
-        ap₂ (levelAt (painted frame (family .edge) (family .border) word print plane) frame) (column-upright k) (row-upright k)
-        ∙ painted-middle (family .edge) (family .border) word print (family .border + k % family .edge) (family .border + k / family .edge) frame plane (omega (arith, i .columns)) (omega (arith, i .rows))
-        (subst (λ (n : ℕ). Printable n frame (family .edge) (family .border) word print) (sym whole) p)
-
-    pub print-level : (k : ℕ) → k < samples family → let q = axesOf (printQuad (family .edge) (family .border) print) in
-        levelAt (painted frame (family .edge) (family .border) word print plane) frame (column q family k) (row q family k)
-        ≡ cond (eqb (bit word (family .edge * family .edge - 1 - k)) 1) (print .light) (print .dark)
-    print-level k h =
-        let s = sources (family .edge) (print .turn) k in
-        let l = sources-lt (family .edge) (print .turn) k h in
-        ap₂ (levelAt (painted frame (family .edge) (family .border) word print plane) frame) (column-start family upright (print .turn) k h) (row-start family upright (print .turn) k h)
-        ∙ level-upright s l
-        ∙ module-shade (family .edge) (family .border) word print (cell-of (family .edge) s) (cell-in (family .edge) s l)
-        ∙ ap (λ (c : Cell). cond (eqb (moduleBit (family .edge) word (c .row) (c .column)) 1) (print .light) (print .dark)) (cell-back (family .edge) (print .turn) k h)
-        ∙ ap (λ (b : ℕ). cond (eqb b 1) (print .light) (print .dark)) (bit-at k)

@@ -36,7 +36,7 @@ use Rattle.muosleap.specs.Quad.{decodeQuad}
 use Rattle.muosleap.proofs.Order.{quad-read}
 use Rattle.paper.specs.Starts.{fromStart}
 use Rattle.paper.specs.Demand3.{misprints, Painted, printOrder, ownTag, ReadsOwn}
-use Rattle.paper.specs.Light.{clearance, clears, clearsAt, contrast, contrasts, litLevels, isLit, Lit}
+use Rattle.paper.specs.Light.{clearance, clears, clearsAt, leastContrast, contrasts, litLevels, isLit, Lit}
 use Rattle.paper.proofs.Given.{Checked, checked, Took, took}
 use Rattle.paper.proofs.Starts.{start-alike}
 use Rattle.paper.proofs.Clear.{Taken, Printed, clear-read}
@@ -84,7 +84,7 @@ module _ (family : Family) (codes : List ℕ) (id w : ℕ) (printed : Printed fa
 
   pub lit-read : reading picture seen family codes q ≡ accepted (record { id = id; turn = 0; differing = differing w (getD codes id 0); corners = answerCorners q 0 })
   lit-read =
-      clear-read picture seen family codes q id w taken printed clearance (omega arith) (omega (arith, leb-true contrast (greatestOf levels - leastOf levels) apart-enough)) clear
+      clear-read picture seen family codes q id w taken printed clearance (omega arith) (omega (arith, leb-true leastContrast (greatestOf levels - leastOf levels) apart-enough)) clear
 
 -- ---- a painted tag
 
@@ -157,7 +157,7 @@ module _ (family : Family) (codes : List ℕ) (id word : ℕ) (plane : List ℕ)
     found-own = own-listed family codes id word seen found picture s found-alone
 
   -- the painter's own quad
-  pub own-taken : Taken frame family quad
+  own-taken : Taken frame family quad
   own-taken = subst (Taken frame family) (sym (tag .quad-is)) (taken plane frame family codes id word print print-is (tag .prints))
 
   pub own-shades : (k : ℕ) → k < samples family → getD (levelsOf shown frame family (axesOf quad)) k 0 ≡ shadeOfBit (print .light) (print .dark) (bit word (samples family - 1 - k))

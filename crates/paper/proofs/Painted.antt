@@ -30,10 +30,11 @@ use Rattle.painter.specs.declared.Print.{Print}
 use Rattle.painter.proofs.Printable.{good-print}
 use Rattle.reader.specs.Reading.{samples, column, row, levelsOf}
 use Rattle.reader.proofs.Starts.{levels-size}
-use Rattle.paper.specs.Light.{clearance, clears, clearsAt, contrast, litLevels, isLit}
+use Rattle.paper.specs.Light.{clearance, clears, clearsAt, leastContrast, litLevels, isLit}
 use Rattle.paper.proofs.Misprints.{Has, has-one, has-zero}
 use Rattle.paper.proofs.Clear.{Taken, Printed}
-use Rattle.paper.proofs.Corners.{print-small, print-within, print-sampled, print-level}
+use Rattle.paper.proofs.Corners.{print-small, print-within}
+use Rattle.paper.proofs.Stays.{print-sampled, print-level}
 
 -- a module's shade by its bit
 abbrev pub shadeOfBit : (light dark b : ℕ) → ℕ
@@ -127,11 +128,11 @@ module _ (plane : List ℕ) (frame : Frame) (family : Family) (codes : List ℕ)
   range : (leastOf levels ≡ print .dark) × (greatestOf levels ≡ print .light)
   range = range-is levels (print .dark) (print .light) (λ k h. shade-within (print .light) (print .dark) (getD levels k 0) apart (shades k h)) unlit lit
 
-  -- "greatest and least are at least 50 apart", and each level is 24 or more from the middle between them
+  -- "greatest and least are at least 50 apart", and each level is 25 or more from the middle between them
   pub own-lit : isLit picture frame (print .light) family quad picture frame ≡ true
   unfolding isLit litLevels
   own-lit =
       let middle : middleOf levels ≡ (print .dark + print .light + 1) / 2 = ap₂ (λ (x y : ℕ). (x + y + 1) / 2) (range .0) (range .1) in
-      ap₂ _&&_ (le-leb contrast (greatestOf levels - leastOf levels) (omega (arith, apart, range .0, range .1)))
+      ap₂ _&&_ (le-leb leastContrast (greatestOf levels - leastOf levels) (omega (arith, apart, range .0, range .1)))
       (each-of (length levels) (clearsAt (middleOf levels) (print .light) levels levels)
       (λ k h. shade-clears (print .light) (print .dark) (getD levels k 0) apart (middleOf levels) middle (shades k h)))

@@ -1,6 +1,6 @@
--- Ticket 3 of document 02: each tag of a sheet reads as the single painted tag does, since the sheet shows the same in its square. From
--- demand 3, which says what the single tag reads as. Assumes nothing.
-use mathlib.Core.Path.{_≡_, sym, ap, _∙_, subst}
+-- Ticket 3 of document 02: each tag of a sheet reads as the single painted tag does, since the sheet shows the same in its square. From ticket 8's law
+-- of single tags: the sheet is a picture in which each of them is lit. Assumes nothing.
+use mathlib.Core.Path.{_≡_, refl, sym, ap, ap₂, _∙_, subst}
 use mathlib.Core.Bool.{true, false}
 use mathlib.Core.List.{List}
 use Prim.Native.Nat.{ℕ, _<_}
@@ -21,12 +21,12 @@ use Rattle.tables.specs.declared.Family.{Family}
 use Rattle.tables.proofs.Table.{good-table}
 use Rattle.word.proofs.Differing.{differing-same}
 use Rattle.places.specs.Place.{axesOf}
+use Rattle.levels.specs.Levels.{middleOf}
 use Rattle.painter.specs.Corners.{printQuad}
 use Rattle.painter.specs.Picture.{inBlock}
 use Rattle.painter.specs.Printable.{Printable}
 use Rattle.painter.specs.Tag.{paintedPixel, painted}
 use Rattle.painter.specs.declared.Print.{Print}
-use Rattle.painter.proofs.Painted.{length-painted}
 use Rattle.painter.proofs.Picture.{length-repainted, pixel-repainted}
 use Rattle.grid.specs.Sheet.{tagSize, sheetPixel, sheet}
 use Rattle.grid.specs.Quads.{tagCount, positionPrint}
@@ -36,20 +36,18 @@ use Rattle.grid.proofs.Quads.{quad-is}
 use Rattle.grid.proofs.Sheetable.{code-known, tag-printable}
 use Rattle.grid.proofs.Tags.{own-pixel}
 use Rattle.reader.specs.Reading.{column, row, levelsOf}
-use Rattle.reader.proofs.Depends.{Agree, levels-depend, reading-depends}
+use Rattle.reader.proofs.Depends.{Agree, levels-depend}
 use Rattle.muosleap.specs.Quad.{decodeQuad}
-use Rattle.muosleap.proofs.Order.{quad-read}
 use Rattle.muosleap_paint.specs.PaintTag.{Painting}
 use Rattle.muosleap_paint.specs.PaintSheet.{SheetPainting}
 use Rattle.muosleap_paint.proofs.PaintTag.{paint-done}
 use Rattle.muosleap_paint.proofs.PaintSheet.{sheet-done, sheet-accepted, sheet-in}
-use Rattle.paper.specs.Demand3.{Passes, Painted, printOrder, ownTurn, ownTag}
+use Rattle.paper.specs.Demand3.{Passes, Painted, printOrder, ownTurn, ownTag, ReadsOwn}
+use Rattle.paper.specs.Light.{litLevels, isLit, Lit}
 use Rattle.paper.specs.Sheet.{SheetPainted, single, Shows, Reads, Sheets}
-use Rattle.paper.specs.Starts.{fromStart}
-use Rattle.paper.proofs.Corners.{print-square, print-sampled}
+use Rattle.paper.proofs.Stays.{print-square, print-sampled}
 use Rattle.paper.proofs.Given.{checked}
-use Rattle.paper.proofs.Listed.{own-listed}
-use Rattle.paper.proofs.Demand3.{demand-3}
+use Rattle.paper.proofs.Lit.{shown-lit, lit-own}
 
 -- the tag of a position, whose code itself is painted: no module is misprinted
 pub clean-tag : (codes : List ℕ) (position : ℕ) (quad : Quad) (s : ℕ)
@@ -65,10 +63,10 @@ module _ (family : Family) (codes : List ℕ) (grid : Grid) (print : Print) (pla
   abbrev pub word : ℕ
   word = getD codes position 0
 
-  abbrev pub quad : Quad
+  abbrev quad : Quad
   quad = printQuad (family .edge) (family .border) tag
 
-  abbrev pub alone : List ℕ
+  abbrev alone : List ℕ
   alone = painted frame (family .edge) (family .border) word tag plane
 
   -- ---- what the entry's answer says
@@ -107,7 +105,7 @@ module _ (family : Family) (codes : List ℕ) (grid : Grid) (print : Print) (pla
     square = λ x y hx hy e. square x y hx hy e ∙ ap (λ (p : Painting). levelAt (p .plane) frame x y) (sym painted-alone);
   }
 
-  -- ---- its samples lie there, so it reads as the single tag does
+  -- ---- its samples lie there, so it shows the same at them
 
   agree : Agree shown alone frame (frame .pitch) family (axesOf quad)
   agree k l inside =
@@ -118,46 +116,63 @@ module _ (family : Family) (codes : List ℕ) (grid : Grid) (print : Print) (pla
       square x y (ltb-true x (frame .width) (and-left wide high inside)) (ltb-true y (frame .height) (and-right wide high inside))
       (print-square (length plane) frame family word tag prints k l)
 
-  -- the sheet and the single tag have the same levels there
-  pub same-levels : levelsOf shown frame family (axesOf quad) ≡ levelsOf alone frame family (axesOf quad)
+  same-levels : levelsOf shown frame family (axesOf quad) ≡ levelsOf alone frame family (axesOf quad)
   same-levels = levels-depend shown alone frame (frame .pitch) family (axesOf quad) agree (print-sampled (length plane) frame family word tag prints)
 
   pub good-shown : badFrame (length shown) frame ≡ false
   good-shown =
       ap (λ (n : ℕ). badFrame n frame) (ap length shown-is ∙ length-repainted frame (λ x y old. sheetPixel family codes grid print x y (print .light)) plane) ∙ sheets .planes
 
-  good-alone : badFrame (length alone) frame ≡ false
-  good-alone = ap (λ (n : ℕ). badFrame n frame) (length-painted frame (family .edge) (family .border) word tag plane) ∙ sheets .planes
-
   module _ (passes : Passes family codes) where
-    same-first : decodeQuad shown frame family codes quad ≡ decodeQuad alone frame family codes quad
-    same-first =
-        quad-read shown frame family codes quad good-shown (sheets .tables)
-        ∙ reading-depends shown alone frame (frame .pitch) family codes quad agree
-        ∙ sym (quad-read alone frame family codes quad good-alone (sheets .tables))
-
     -- the code itself is painted: nothing is misprinted
-    pub clean : Painted family codes position word plane frame tag quad alone
+    clean : Painted family codes position word plane frame tag quad alone
     clean =
         let t = good-table family codes (checked family codes passes .table) in
         record { passes = passes; known = code-known sheets position known; misprinted = omega (arith, differing-same 64 word, t .coded .near .least); painted = painted-alone }
 
+    -- so a picture in which the sheet's tag is lit is one in which the single tag is, and reads as its own
+    lit-alone : (picture : List ℕ) (seen : Frame) → isLit shown frame (print .light) family quad picture seen ≡ isLit alone frame (print .light) family quad picture seen
+    unfolding isLit
+    lit-alone picture seen =
+        let levels = levelsOf picture seen family (axesOf quad) in
+        ap (λ (p : List ℕ). litLevels (middleOf levels) (print .light) p levels) same-levels
+
+    quad-lit : (picture : List ℕ) (seen : Frame) → Lit shown frame (print .light) family quad picture seen → (s : ℕ) → s < 4 → ReadsOwn family codes position word seen quad picture s
+    quad-lit picture seen l =
+        lit-own family codes position word plane frame tag quad alone clean picture seen
+        (record { wide = l .wide; high = l .high; planes = l .planes; samples = sym (lit-alone picture seen) ∙ l .samples })
+
+    -- the sheet itself is such a picture
+    quad-lit-shown : Lit shown frame (print .light) family quad shown frame
+    unfolding isLit
+    quad-lit-shown = record {
+      wide = refl;
+      high = refl;
+      planes = good-shown;
+      samples = ap₂ (λ (p l : List ℕ). litLevels (middleOf l) (print .light) p l) same-levels same-levels ∙ shown-lit family codes position word plane frame tag quad alone clean .samples;
+    }
+
+    -- ---- the same of the quad that the sheet's painter wrote
+
+    pub tag-lit : (picture : List ℕ) (seen : Frame) → Lit shown frame (print .light) family (quadAt written position) picture seen → (s : ℕ) → s < 4
+        → ReadsOwn family codes position (getD codes position 0) seen (quadAt written position) picture s
+    tag-lit picture seen l s start =
+        subst (λ (q : Quad). ReadsOwn family codes position word seen q picture s) (sym written-is)
+        (quad-lit picture seen (subst (λ (q : Quad). Lit shown frame (print .light) family q picture seen) written-is l) s start)
+
+    pub sheet-lit : Lit shown frame (print .light) family (quadAt written position) shown frame
+    sheet-lit = subst (λ (q : Quad). Lit shown frame (print .light) family q shown frame) (sym written-is) quad-lit-shown
+
     module _ (s : ℕ) (start : s < 4) where
-      same-start : decodeQuad shown frame family codes (turnedLeft s quad) ≡ decodeQuad alone frame family codes (turnedLeft s quad)
-      same-start =
-          demand-3 .any-quad shown frame family codes quad passes s start
-          ∙ ap (fromStart s) same-first
-          ∙ sym (demand-3 .any-quad alone frame family codes quad passes s start)
-
-      own-alone : decodeQuad shown frame family codes (turnedLeft s quad) ≡ accepted (ownTag codes position word quad s)
-      own-alone = same-start ∙ demand-3 .painted-tags family codes position word plane frame tag quad alone clean s start .alone
-
       reads-quad : Reads family codes grid print plane frame quad shown position s
-      reads-quad = record {
-        as-single = same-start ∙ ap (λ (p : Painting). decodeQuad (p .plane) frame family codes (turnedLeft s quad)) (sym painted-alone);
-        own = own-listed family codes position word frame quad shown s own-alone;
-        tag = clean-tag codes position quad s;
-      }
+      reads-quad =
+          let own = quad-lit shown frame quad-lit-shown s start in
+          let by-itself = lit-own family codes position word plane frame tag quad alone clean alone frame (shown-lit family codes position word plane frame tag quad alone clean) s start in
+          record {
+            as-single = own .alone ∙ sym (by-itself .alone) ∙ ap (λ (p : Painting). decodeQuad (p .plane) frame family codes (turnedLeft s quad)) (sym painted-alone);
+            own = own;
+            tag = clean-tag codes position quad s;
+          }
 
       tag-reads : Reads family codes grid print plane frame (quadAt written position) shown position s
       tag-reads = subst (λ (q : Quad). Reads family codes grid print plane frame q shown position s) (sym written-is) reads-quad

@@ -57,7 +57,8 @@ ownTurn s = (4 - s) % 4
 abbrev pub ownTag : List ℕ → ℕ → ℕ → Quad → ℕ → Tag
 ownTag codes id word quad s = record { id = id; turn = ownTurn s; differing = misprints codes id word; corners = printOrder quad }
 
--- "Start s of the painter's quad is then read with the same table and threshold, on the plane as the painter left it."
+-- "Start s of the painter's quad is then read with the same table and threshold, on the plane as the painter left it." Ticket 8 of 02 says the
+-- same of every picture that is lit well enough; `shown` is what is read
 pub record ReadsOwn (family : Family) (codes : List ℕ) (id word : ℕ) (frame : Frame) (quad : Quad) (shown : List ℕ) (s : ℕ) : Type 0 where
   -- "Both the quad reader's answer ..
   pub alone : decodeQuad shown frame family codes (turnedLeft s quad) ≡ accepted (ownTag codes id word quad s)

@@ -36,20 +36,20 @@ abbrev pub clearance : ℕ
 clearance = 10
 
 -- "each light one at least 10 above it", "each sampled dark module is at least 10 below the middle": the level of a module that was painted light, or dark
-abbrev pub clears : (middle : ℕ) → (light : Bool) → (level : ℕ) → Bool
+abbrev pub clears : (middle : ℕ) → (paintedLight : Bool) → (level : ℕ) → Bool
 clears middle true level = leb (middle + clearance) level
 clears middle false level = leb (level + clearance) middle
 
--- of sample k: the painted plane shows the light shade there, or else the dark one
+-- of sample k: the painted plane shows the light shade there, or else the dark one; `light` is that shade
 abbrev pub clearsAt : (middle light : ℕ) → (painted levels : List ℕ) → ℕ → Bool
 clearsAt middle light painted levels k = clears middle (eqb (getD painted k 0) light) (getD levels k 0)
 
 -- "greatest and least are at least 50 apart"
-abbrev pub contrast : ℕ
-contrast = 50
+abbrev pub leastContrast : ℕ
+leastContrast = 50
 
 abbrev pub contrasts : List ℕ → Bool
-contrasts levels = leb contrast (greatestOf levels - leastOf levels)
+contrasts levels = leb leastContrast (greatestOf levels - leastOf levels)
 
 -- both, of the levels at some samples, and of what was painted at each
 unfoldable pub litLevels : (middle light : ℕ) → (painted levels : List ℕ) → Bool
@@ -57,8 +57,8 @@ unfolding each
 litLevels middle light painted levels =
     contrasts levels && each (length levels) (clearsAt middle light painted levels)
 
--- the samples of a quad: what the painted plane shows at them, and their levels in the picture. "The middle is that of document 01, over the
--- samples taken."
+-- the samples of a quad: what is `shown` at them by the painted plane, which `frame` describes, and their levels in the picture, which `seen`
+-- describes. "The middle is that of document 01, over the samples taken."
 unfoldable pub isLit : (shown : List ℕ) → Frame → (light : ℕ) → Family → Quad → (picture : List ℕ) → Frame → Bool
 unfolding litLevels levelsOf
 isLit shown frame light family quad picture seen =

@@ -2,8 +2,7 @@
 -- each way. Every place is in the middle of its cell. Assumes nothing.
 use mathlib.Core.Path.{_≡_, sym, ap, _∙_}
 use mathlib.Core.Bool.{true, false}
-use Prim.Native.Nat.{ℕ, zero, suc, _+_, _-_, _*_, _/_, _<_, _≤_}
-use native.Mathlib.Nat.{mul-div-mul-right}
+use Prim.Native.Nat.{ℕ, zero, suc, _+_, _-_, _*_, _<_, _≤_}
 use native.Mathlib.Omega.{arith}
 use borrow.Author.Tests.{lt-leb}
 use lib.Dec.{lit<}
@@ -11,11 +10,11 @@ use lib.IntN.{ℤ, pos, _+ℤ_, _-ℤ_, _*ℤ_, *ℤ-zero, +ℤ-idr}
 use lib.Ieee.{Float}
 use lib.Ieee.Exact.{HasValue}
 use Rattle.places.specs.declared.Axis.{Axis}
-use Rattle.places.specs.Rounding.{nearest, toPixel, pixelOf, badCoordinate, in1024ths}
-use Rattle.places.specs.Place.{axisOf, fromMiddle, modulePlace, modulePixel}
+use Rattle.places.specs.Rounding.{nearest, pixelOf, badCoordinate, in1024ths}
+use Rattle.places.specs.Place.{axisOf, fromMiddle, modulePlace}
 use Rattle.places.proofs.Diff.{Diff, diff-pos, diff-plus, diff-minus, diff-times, diff-same}
 use Rattle.places.proofs.Small.{middle}
-use Rattle.places.proofs.Value.{nearest-even, value-1024ths, value-pixel, value-bad}
+use Rattle.places.proofs.Value.{value-1024ths, value-pixel, value-bad}
 
 -- half a pixel before pixel n, in 1024ths
 abbrev pub halfBefore : ℕ → ℤ
@@ -67,21 +66,6 @@ module _ (x0 side : ℕ) where
       (diff-pos (2048 * side * (2 * (x0 + suc m * k) + m))) (omega arith)
       ∙ ap (λ (n : ℕ). pos (2048 * side * (2 * (x0 + suc m * k) + n))) (sym e)
 
-  rounded : (c k : ℕ) → 0 < side → 0 < c → toPixel (pos (2048 * side * (2 * (x0 + c * k) + (c - 1)))) (4096 * side) ≡ x0 + c * k + c / 2
-  rounded c k S C =
-      let w = 2048 * side in
-      let e : 4096 * side ≡ 2 * w = omega arith in
-      let f : w * (2 * (x0 + c * k) + (c - 1)) + w ≡ (2 * (x0 + c * k) + c) * w = one-more w (2 * (x0 + c * k)) c C in
-      ap (nearest (w * (2 * (x0 + c * k) + (c - 1)))) e
-      ∙ nearest-even (w * (2 * (x0 + c * k) + (c - 1))) w
-      ∙ ap (λ (n : ℕ). n / (2 * w)) f
-      ∙ mul-div-mul-right (2 * (x0 + c * k) + c) 2 (omega arith)
-      ∙ omega arith
-    where
-      one-more : (w n c : ℕ) → 0 < c → w * (n + (c - 1)) + w ≡ (n + c) * w
-      one-more w n zero h = absurd (omega arith)
-      one-more w n (suc m) h = let e : suc m - 1 ≡ m = omega arith in rw e (omega arith)
-
 module _ (x0 side c i j : ℕ) (C : 0 < c) where
   -- x of module (i, j) of a tag that starts at column x0: x0 + c × j + (c − 1) / 2
   pub place-across : modulePlace (axisOf (halfBefore x0) (halfBefore (x0 + side * c)) (halfBefore (x0 + side * c)) (halfBefore x0)) side i j
@@ -100,13 +84,6 @@ module _ (x0 side c i j : ℕ) (C : 0 < c) where
       ∙ ap (λ (z : ℤ). total x0 (side * c) *ℤ pos side +ℤ fromMiddle side i *ℤ pos (2048 * (side * c)) +ℤ z) (*ℤ-zero (fromMiddle side j))
       ∙ +ℤ-idr (total x0 (side * c) *ℤ pos side +ℤ fromMiddle side i *ℤ pos (2048 * (side * c)))
       ∙ middle-of x0 side c i C
-
-  -- they round to a pixel of their cell
-  pub painted-across : 0 < side → modulePixel (axisOf (halfBefore x0) (halfBefore (x0 + side * c)) (halfBefore (x0 + side * c)) (halfBefore x0)) side i j ≡ x0 + c * j + c / 2
-  painted-across S = ap (λ (z : ℤ). toPixel z (4096 * side)) place-across ∙ rounded x0 side c j S C
-
-  pub painted-down : 0 < side → modulePixel (axisOf (halfBefore x0) (halfBefore x0) (halfBefore (x0 + side * c)) (halfBefore (x0 + side * c))) side i j ≡ x0 + c * i + c / 2
-  painted-down S = ap (λ (z : ℤ). toPixel z (4096 * side)) place-down ∙ rounded x0 side c i S C
 
 -- ---- a float that lies half a pixel before pixel n
 

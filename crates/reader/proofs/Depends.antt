@@ -7,7 +7,7 @@ use Prim.Native.Nat.{ℕ, _<_}
 use Rattle.lists.proofs.Each.{each-at}
 use Rattle.lists.proofs.Rows.{tabulate-ext}
 use Rattle.refusals.specs.Outcome.{Outcome, refused}
-use Rattle.refusals.specs.Pixels.{levelAt}
+use Rattle.refusals.specs.Pixels.{atPitch, levelAt}
 use Rattle.refusals.specs.declared.Frame.{Frame}
 use Rattle.points.specs.declared.Quad.{Quad}
 use Rattle.tables.specs.declared.Family.{Family}
@@ -16,10 +16,6 @@ use Rattle.places.specs.Corners.{badCorners, cornersOutside}
 use Rattle.places.specs.Place.{axesOf}
 use Rattle.levels.specs.Levels.{codeOf}
 use Rattle.reader.specs.Reading.{samples, column, row, sampleInside, samplesInside, levelsOf, Tag, tagOf, reading}
-
--- the same sides at another pitch; without filler where that is the width
-abbrev pub atPitch : Frame → ℕ → Frame
-atPitch frame pitch = record { width = frame .width; height = frame .height; pitch = pitch }
 
 -- the level of sample k
 abbrev level : List ℕ → Frame → Family → Axes → ℕ → ℕ

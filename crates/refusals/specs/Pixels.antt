@@ -12,6 +12,10 @@ use Rattle.refusals.specs.declared.Frame.{Frame}
 abbrev pub packedFrame : (width height : ℕ) → Frame
 packedFrame width height = record { width = width; height = height; pitch = width }
 
+-- the same width and height at another pitch
+abbrev pub atPitch : Frame → ℕ → Frame
+atPitch frame pitch = record { width = frame .width; height = frame .height; pitch = pitch }
+
 -- "a pitch, at least the width and at most 8,192"
 abbrev pub badPitch : (width pitch : ℕ) → Bool
 badPitch width pitch = ltb pitch width || ltb 8192 pitch

@@ -1,6 +1,6 @@
 // Replays what the original's turn, search, levels, corner test and quad reader answered, its families, lists of quads, paintings of
 // tags and sheets, the limits of documents 01 and 02, searches with their count of codes compared, and pictures of painted tags under
-// uneven light, against the public entries on tags; what has a picture again with filler between its lines. tools/oracle/README.md says
+// uneven light, against the public entries on tags and, for the latter, `lit_reading`; what has a picture again with filler between its lines. tools/oracle/README.md says
 // how the files were made.
 mod bit_codes;
 mod light;

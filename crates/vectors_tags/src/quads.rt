@@ -131,7 +131,7 @@ fn picture_alike(kind: u8, frame: &[u8], lent: &[u8], layout: u8) -> bool {
 }
 
 // The number of a list's answer, 0 where it is accepted.
-fn number_of(listed: Listed) -> u8 {
+pub fn number_of(listed: Listed) -> u8 {
     match listed {
         Listed::Done(_) => 0,
         Listed::Refused(number) => number,

@@ -8,7 +8,7 @@ use lib.Dec.{leb}
 use lib.ListN.{length}
 use Rattle.lists.specs.Each.{each}
 use Rattle.levels.proofs.Extremes.{least-le-greatest}
-use Rattle.paper.specs.Light.{clearsAt, contrast, litLevels}
+use Rattle.paper.specs.Light.{clearsAt, leastContrast, litLevels}
 use Rattle.lit_reading.proofs.levels_lit.Statement.{statement}
 use Rattle.lit_reading.proofs.levels_lit.Tie as tie
 
@@ -27,7 +27,7 @@ returns c =
     let range = r .range-of .ensures in
     let levels = a .levels .now in
     let middle = m .middle-of .ensures ∙ ap₂ (λ (least greatest : ℕ). (least + greatest + 1) / 2) (range .0) (range .1) in
-    ap₂ _&&_ (ap₂ (λ (least greatest : ℕ). leb contrast (greatest - least)) (range .0) (range .1))
+    ap₂ _&&_ (ap₂ (λ (least greatest : ℕ). leb leastContrast (greatest - least)) (range .0) (range .1))
     (c .all-clear .ensures ∙ ap (λ (n : ℕ). each (length levels) (clearsAt n (a .light) (a .painted .now) levels)) middle)
 
 pub levels-lit-spec : {M : Type 1} → statement M

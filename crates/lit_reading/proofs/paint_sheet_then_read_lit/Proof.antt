@@ -5,6 +5,7 @@ use Prim.Native.Nat.{ℕ}
 use native.Mathlib.Omega.{arith}
 use borrow.Author.Needs.{needs}
 use lib.Ieee.{Float}
+use Rattle.refusals.specs.Pixels.{atPitch}
 use Rattle.points.specs.declared.Quad.{Quad}
 use Rattle.points.specs.Turned.{turnedLeft}
 use Rattle.grid.proofs.Sheetable.{room}
@@ -13,7 +14,8 @@ use Rattle.muosleap_paint.specs.declared.sheet.Sheet.{Sheet}
 use Rattle.muosleap_paint.specs.PaintSheet.{SheetPainting, paintingOf, paperSheet}
 use Rattle.muosleap_paint.proofs.PaintSheet.{sheet-accepted}
 use Rattle.paper.specs.Sheet.{SheetPainted}
-use Rattle.lit_reading.specs.Said.{Sampleable, atPitch, litPicture, litSheet, readSheetPicture}
+use Rattle.lit_reading.specs.Said.{litPicture, litSheet, readSheetPicture}
+use Rattle.lit_reading.specs.Sampleable.{Sampleable}
 use Rattle.lit_reading.proofs.Said.{position-sampleable, sheet-lit-then-read}
 use Rattle.lit_reading.proofs.paint_sheet_then_read_lit.Statement.{statement}
 use Rattle.lit_reading.proofs.paint_sheet_then_read_lit.Tie as tie

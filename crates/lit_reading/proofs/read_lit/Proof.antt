@@ -5,7 +5,7 @@ use mathlib.Core.List.{List}
 use Prim.Native.Nat.{ℕ}
 use borrow.Author.Needs.{needs}
 use lib.ListN.{length}
-use Rattle.refusals.specs.Pixels.{badFrame}
+use Rattle.refusals.specs.Pixels.{badFrame, atPitch}
 use Rattle.refusals.specs.declared.Frame.{Frame}
 use Rattle.tables.specs.declared.Family.{Family}
 use Rattle.points.specs.declared.Quad.{Quad}
@@ -14,7 +14,7 @@ use Rattle.reader.specs.Reading.{samplesInside}
 use Rattle.reader.specs.Answer.{paperReading}
 use Rattle.muosleap.specs.Quad.{decodeQuad}
 use Rattle.paper.specs.Light.{isLit}
-use Rattle.lit_reading.specs.Said.{Sampleable, atPitch}
+use Rattle.lit_reading.specs.Sampleable.{Sampleable}
 use Rattle.lit_reading.proofs.read_lit.Statement.{statement}
 use Rattle.lit_reading.proofs.read_lit.Tie as tie
 

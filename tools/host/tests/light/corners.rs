@@ -1,8 +1,10 @@
-//! Corners that are a little off, as a quad search gives them: on the painter's own plane every sample stays in its module.
+//! Corners that are a little off, as a quad search gives them: on the painter's own plane every sample stays in its module, and a
+//! picture in which these samples are lit well enough is read as the plane.
 
 use crate::definition::{places, sampled};
+use crate::lit_picture_is_read;
 use crate::numbers::Numbers;
-use crate::pictures::{Painted, Tags, below, for_tags, own, said};
+use crate::pictures::{Lamp, Noise, Painted, Tags, any_cell, below, for_tags, own, said};
 use muosleap::{FAMILIES, Family, Point, Print, Quad, Refusal, Table};
 
 /// 1024ths of a pixel by which each coordinate may be off. Where edge ≤ 2 × border + 2 this is everything below half a cell. For
@@ -30,9 +32,21 @@ fn moved(quad: &Quad, mut by: impl FnMut() -> i32) -> Quad {
     Quad::from(<[f32; 8]>::from(*quad).map(|coordinate| coordinate + by() as f32 / 1_024.0))
 }
 
-/// A number from −most to most, and every other time one of the two.
-fn up_to(most: usize, numbers: &mut Numbers) -> i32 {
-    [most as i32, -(most as i32), below(2 * most + 1, numbers) as i32 - most as i32][below(4, numbers).min(2)]
+/// By how many 1024ths of a pixel each coordinate was moved.
+fn moved_by(quad: &Quad, to: &Quad) -> [f32; 8] {
+    let [from, to] = [*quad, *to].map(<[f32; 8]>::from);
+    std::array::from_fn(|place| (to[place] - from[place]) * 1_024.0)
+}
+
+/// A tag's quad, each coordinate off by up to so many 1024ths: mostly as many as are allowed, else fewer. Of half of these quads
+/// each coordinate is off by just that, of the others every other one.
+fn a_little_off(painted: &Painted, numbers: &mut Numbers) -> Quad {
+    let allowed = allowed(&painted.tags.table, painted.print.cell);
+    let most = if below(3, numbers) == 0 { below(allowed + 1, numbers) } else { allowed };
+    let ways = [2, 4][below(2, numbers)];
+    moved(&painted.quad, || {
+        [most as i32, -(most as i32), below(2 * most + 1, numbers) as i32 - most as i32][below(ways, numbers).min(2)]
+    })
 }
 
 #[test]
@@ -41,13 +55,28 @@ fn corners_that_are_a_little_off() {
     for_tags(3_000, |tags| {
         let cell = if below(100, &mut numbers) == 0 { 64 } else { 1 + below(8, &mut numbers) };
         let painted = Painted::random(tags, cell, cell, &mut numbers);
-        let most = match below(3, &mut numbers) {
-            0 => below(allowed(&tags.table, cell) + 1, &mut numbers),
-            _ => allowed(&tags.table, cell),
-        };
-        let quad = moved(&painted.quad, || up_to(most, &mut numbers));
-        painted.is_read(&painted.plane, &quad);
+        painted.is_read(&painted.plane, &a_little_off(&painted, &mut numbers));
     });
+}
+
+/// What counts is where the moved quad is sampled. What the picture holds where the painter's own would be does not matter.
+#[test]
+fn a_little_off_in_lit_pictures() {
+    let (mut numbers, mut met) = (Numbers(0x8_0203), [0; 3]);
+    let mut noise = Noise::new(&mut numbers);
+    for_tags(2_000, |tags| {
+        let cell = any_cell(&mut numbers);
+        let painted = Painted::random(tags, cell, cell, &mut numbers);
+        let quad = a_little_off(&painted, &mut numbers);
+        let most = moved_by(&painted.quad, &quad).map(|by| by.abs() == allowed(&tags.table, cell) as f32);
+        let own = painted.samples.clone();
+        let painted = painted.read_at(quad);
+        lit_picture_is_read(&painted, Lamp::any(&mut numbers), &mut noise, &mut numbers);
+        met[0] += 1;
+        met[1] += (most == [true; 8]) as usize;
+        met[2] += own.iter().any(|pixel| !painted.samples.contains(pixel)) as usize;
+    });
+    assert!(met[1] > 5_000 && met[2] > 13_000, "pictures, all corners off by the most, sampled at other pixels: {met:?}");
 }
 
 /// All signs of the four corners' x, and the same of y, with every coordinate off by as much as is allowed.

@@ -64,7 +64,7 @@ fn the_definition_at_its_limits() {
         ([0, 36, 16, 51], false),
     ] {
         let mut picture = Picture::packed(vec![128; 25], 5, 5);
-        painted.samples().into_iter().zip(levels).for_each(|((x, y), level)| picture.bytes[5 * y + x] = level);
+        painted.samples.iter().zip(levels).for_each(|(&(x, y), level)| picture.bytes[5 * y + x] = level);
         assert_eq!(painted.is_lit(&picture), expected, "{levels:?}");
         assert!(!painted.is_lit(&Picture { height: 4, ..picture.clone() }));
         if expected {

@@ -1,6 +1,6 @@
 //! Painted tags, pictures that show them, and what the readers say.
 
-use crate::definition::{Pixel, level, lit, sampled};
+use crate::definition::{Pixel, level, lit, places, sampled};
 use crate::numbers::Numbers;
 use crate::tables::{made, passing};
 use muosleap::painter::paint_tag;
@@ -90,7 +90,7 @@ const LENT: [(u8, u8, u8); 14] = [
     (8, 3, 12),
 ];
 
-/// A painted tag.
+/// A painted tag, and the quad at which it is read.
 pub struct Painted<'a> {
     pub tags: Tags<'a>,
     pub id: usize,
@@ -98,7 +98,10 @@ pub struct Painted<'a> {
     pub word: u64,
     pub print: Print,
     pub plane: Picture<Vec<u8>>,
+    /// The painter's own, if the tag is not `read_at` another.
     pub quad: Quad,
+    /// The pixels that this quad takes.
+    pub samples: Vec<Pixel>,
 }
 
 impl<'a> Painted<'a> {
@@ -109,7 +112,8 @@ impl<'a> Painted<'a> {
         let (width, height) = (print.x + side + behind[0], print.y + side + behind[1]);
         let mut plane = Picture::packed(vec![0; width * height], width, height);
         let quad = paint_tag(&mut plane, table.edge, table.border, word, &print).unwrap();
-        Painted { tags, id, misprinted: flipped.count_ones() as u8, word, print, plane, quad }
+        let samples = sampled(&table, &quad, print.cell);
+        Painted { tags, id, misprinted: flipped.count_ones() as u8, word, print, plane, quad, samples }
     }
 
     /// Any code, anywhere in a plane and so many pixels away from its edges at least, with fewer misprinted modules than the
@@ -122,17 +126,18 @@ impl<'a> Painted<'a> {
         Painted::new(tags, id, flipped, any_print(cell, margin, numbers), behind)
     }
 
-    pub fn samples(&self) -> Vec<Pixel> {
-        sampled(&self.tags.table, &self.quad, self.print.cell)
+    /// The same tag and another quad.
+    pub fn read_at(self, quad: Quad) -> Painted<'a> {
+        Painted { quad, samples: places(&self.tags.table, &quad), ..self }
     }
 
-    /// Of each sample whether its module is painted light.
+    /// Of each sample whether it is painted light.
     pub fn lights(&self) -> Vec<bool> {
-        self.samples().into_iter().map(|pixel| level(&self.plane, pixel) == self.print.light).collect()
+        self.samples.iter().map(|&pixel| level(&self.plane, pixel) == self.print.light).collect()
     }
 
     pub fn is_lit(&self, picture: &Picture<impl AsRef<[u8]>>) -> bool {
-        lit(&self.plane, picture, &self.samples(), self.print.light)
+        lit(&self.plane, picture, &self.samples, self.print.light)
     }
 
     /// The guarantee: each start of this quad is read as demand 3 says.
@@ -259,7 +264,7 @@ impl Noise {
                 _ => {}
             }
         }
-        for ((x, y), &level) in painted.samples().into_iter().zip(levels) {
+        for (&(x, y), &level) in painted.samples.iter().zip(levels) {
             picture.bytes[y * picture.stride + x] = level;
         }
         picture
