@@ -88,7 +88,7 @@ fn painting_alike(record: &[u8], layout: u8) -> bool {
 }
 
 // The four starts, with 37 bytes each.
-fn starts_alike(s: &[u8], number: u8, plane: &[u8], frame: Frame, quad: Quad) -> bool {
+pub fn starts_alike(s: &[u8], number: u8, plane: &[u8], frame: Frame, quad: Quad) -> bool {
     reading_alike(plane, frame, number, quad, s)
         & reading_alike(plane, frame, number, rotate_left(quad, 1), rest(s, 37))
         & reading_alike(plane, frame, number, rotate_left(quad, 2), rest(s, 74))
