@@ -70,7 +70,7 @@ pub record SheetLitThenRead (plane : List ℕ) (frame : Frame) (family : Family)
   pub quads-written : written ≡ paintSheet plane frame family codes grid print quads .quads
   pub worked-out : lit ≡ litSheet frame family print position picture pitch left written (paintSheet plane frame family codes grid print quads .answer)
   pub read : answer ≡ readSheetPicture frame family codes position picture pitch s written (paintSheet plane frame family codes grid print quads .answer)
-  -- the guarantee: "The same for each tag of a painted sheet", whatever the rest of the picture shows
+  -- the guarantee, for each tag of a painted sheet, whatever the rest of the picture shows
   pub own : paintSheet plane frame family codes grid print quads .answer ≡ accepted (record {}) → Passes family codes → s < 4 → lit ≡ true
       → (answer ≡ accepted (record { id = position; turn = ownTurn s; differing = 0; corners = printOrder (quadAt written position) }))
       × ReadsOwn family codes position (getD codes position 0) (atPitch frame pitch) (quadAt written position) picture s

@@ -1,4 +1,5 @@
--- The painter's quad passes 8 and 9. From its other starts it takes the same samples in another order. Assumes nothing.
+-- The painter's quad passes 8 and 9. From its other starts any quad takes the same samples in another order, and a turned print shows its own module at
+-- each. Assumes nothing.
 use mathlib.Core.Path.{_≡_, refl, ap, ap₂, _∙_}
 use mathlib.Core.Bool.{Bool, false}
 use Prim.Native.Nat.{ℕ, zero, suc, _+_, _-_, _*_, _/_, _%_, _≤_, _<_}
