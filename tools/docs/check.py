@@ -10,12 +10,12 @@ check.py --write  first writes the list of definitions in docs/ARCHITECTURE.md a
 3. The tables of turned places: those of the code (crates/word/src/sources.rt) and the squares of docs/TURNING.md, number by
    number, are what the program `turning` printed from the formula (crates/turning/stdout), and so are the places of the
    page's example.
-4. docs/LIGHT.md: the example's square is 231B, its levels have the middle that the page gives and clear it as painted; the
-   table of corners that are off is what its formula gives.
+4. docs/LIGHT.md: the example's square is 231B, its levels are lit well enough, and the sentence on them has their numbers; the
+   table of corners that are off is what the formula gives, and at one 1024th more some sample leaves its module.
 """
 import re
 import sys
-from itertools import zip_longest
+from itertools import product, zip_longest
 from pathlib import Path
 
 ROOT = Path(__file__).resolve().parents[2]
@@ -25,8 +25,10 @@ ARCHITECTURE = ROOT / "docs/ARCHITECTURE.md"
 TRACE = ROOT / "docs/TRACE.md"
 TURNING = ROOT / "docs/TURNING.md"
 LIGHT = ROOT / "docs/LIGHT.md"
-# edge and border of the families, in their order
-SIDES = [(4, 2), (5, 2), (5, 2), (6, 2), (6, 1)]
+# the families in their order: name, edge and border
+FAMILIES = [("T16H5", 4, 2), ("T25H7", 5, 2), ("T25H9", 5, 2), ("T36H11", 6, 2), ("T36H11B1", 6, 1)]
+# what only functions inside a crate lean on, and nobody has to believe
+INNER = {"crates/lit_reading/specs/Sampleable.antt"}
 SOURCES = ROOT / "crates/word/src/sources.rt"
 PRINTED = ROOT / "crates/turning/stdout"
 LIST = re.compile(r"(?<=<!-- definitions -->\n).*?(?=<!-- end -->)", re.S)
@@ -54,6 +56,7 @@ def believed():
         seen.update(file for file in folder.glob("specs/**/*.antt") if file.name != "Lib.antt")
         for source in folder.glob("src/**/*.rt"):
             seen.update(imported(source))
+    seen -= {ROOT / file for file in INNER}
     waiting = list(seen)
     while waiting:
         for file in imported(waiting.pop()):
@@ -124,23 +127,52 @@ def misturned():
         yield "docs/TURNING.md: the example's places are not the bits of 7D01"
 
 
+def strays(edge, border, cell, amount):
+    """Whether a sample leaves its module where the painter's corners are off by so many 1024ths, up or down, along x or along y."""
+    side, first = edge + 2 * border, 64 * cell
+    low, high = 1024 * first - 512, 1024 * (first + side * cell) - 512
+    for signs, (corners, along) in product(product((-amount, amount), repeat=4), (((low, high, high, low), 1), ((low, low, high, high), 0))):
+        q0, q1, q2, q3 = (corner + sign for corner, sign in zip(corners, signs))
+        for module in product(range(border, border + edge), repeat=2):
+            u, v = (2 * place - side + 1 for place in module)
+            over = (q0 + q1 + q2 + q3) * side + u * (q2 + q3 - q0 - q1) + v * (q1 + q2 - q0 - q3)
+            if ((over + 2048 * side) // (4096 * side) - first) // cell != module[along]:
+                return True
+    return False
+
+
+def misplaced(page):
+    """Where the table of docs/LIGHT.md is not what its formula gives, or one 1024th more would be harmless too."""
+    cells = numbers("".join(re.findall(r"^\| family \|(.*)\| of a cell \|$", page, re.M)))
+    rows = [(name, numbers(row)) for name, row in re.findall(r"^\| (T\d+H\d+(?:B1)?) \|(.*)\| less than .*\|$", page, re.M)]
+    if not cells or [name for name, _ in rows] != [name for name, _, _ in FAMILIES]:
+        yield "docs/LIGHT.md: no table of corners with a row for each family"
+        return
+    for (name, row), (_, edge, border) in zip(rows, FAMILIES):
+        side = edge + 2 * border
+        if row != [(2048 * side * cell - 1) // max(4 * side, 2 * side + 4 * (edge - 1)) for cell in cells]:
+            yield f"docs/LIGHT.md: the row of {name} is not what the formula gives"
+        elif any(strays(edge, border, cell, most) or not strays(edge, border, cell, most + 1) for cell, most in zip(cells, row)):
+            yield f"docs/LIGHT.md: the row of {name} is not where the first sample leaves its module"
+
+
 def mislit():
-    """Where docs/LIGHT.md's example and table are not what its own sentences say."""
+    """Where docs/LIGHT.md's example is not what its own sentences say."""
     page = LIGHT.read_text(encoding="utf8")
-    painted, levels = (numbers(square) for square in re.findall(r"```\n((?:[ \d]+\n){4})```", page))
+    squares = [numbers(square) for square in re.findall(r"```\n((?:[ \d]+\n){4})```", page)]
+    if [len(square) for square in squares] != [16, 16]:
+        yield "docs/LIGHT.md: not two squares of sixteen numbers"
+        return
+    painted, levels = squares
     if sum(bit << 15 - place for place, bit in enumerate(painted)) != 0x231B:
         yield "docs/LIGHT.md: the example's square is not 231B"
     least, greatest = min(levels), max(levels)
     middle = (least + greatest + 1) // 2
-    if f"The least is {least}, the greatest {greatest}, the middle {middle}." not in page or greatest - least < 50:
-        yield "docs/LIGHT.md: the example's least, greatest and middle are other numbers"
-    if any(level < middle + 10 if light else level > middle - 10 for light, level in zip(painted, levels, strict=True)):
-        yield "docs/LIGHT.md: a level of the example does not clear the middle"
-    cells = numbers(re.search(r"^\| family \|(.*)\| of a cell \|$", page, re.M)[1])
-    rows = [numbers(row) for row in re.findall(r"^\| T\d+H\d+(?:B1)? \|(.*)\| less than .*\|$", page, re.M)]
-    sides = [(edge, edge + 2 * border) for edge, border in SIDES]
-    if rows != [[(2048 * side * cell - 1) // max(4 * side, 2 * side + 4 * (edge - 1)) for cell in cells] for edge, side in sides]:
-        yield "docs/LIGHT.md: the table of corners is not what the formula gives"
+    light, dark = ([level for bit, level in zip(painted, levels) if bit == shade] for shade in (1, 0))
+    sentence = (f"The least is {least}, the greatest {greatest}, the middle {middle}. Light modules have to be at {middle + 10} or above, dark ones at {middle - 10} or below; "
+                f"the lowest light one has {min(light)}, the highest dark one {max(dark)}. The contrast is {greatest - least}.")
+    if sentence not in page or min(light) < middle + 10 or max(dark) > middle - 10 or greatest - least < 50:
+        yield f"docs/LIGHT.md: the example is not lit well enough, or does not say: {sentence}"
 
 
 def main():
@@ -155,6 +187,7 @@ def main():
     wrong += [f"docs/TRACE.md: no `{name}` in the tree" for name in untraced()]
     wrong += misturned()
     wrong += mislit()
+    wrong += misplaced(LIGHT.read_text(encoding="utf8"))
     print("\n".join(wrong) or "documents: as the tree has it")
     return 1 if wrong else 0
 

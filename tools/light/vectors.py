@@ -442,7 +442,7 @@ def also(out, picture, scene):
 
 
 def only_just_lit(out, families):
-    """1: least and greatest 50 apart, or 51 where their sum is to be odd, at both ends of the range and inside it."""
+    """Least and greatest 50 apart, or 51 where their sum is to be odd, at both ends of the range and inside it."""
     numbers = Numbers(8_001)
     cells = [[1, 2, 1, 3], [2, 1, 1, 1], [1, 2, 1, 1], [1, 1, 1, 2], [3, 1, 1, 1]]
     for family in families:
@@ -463,7 +463,7 @@ def only_just_lit(out, families):
 
 
 def gradients(out, families):
-    """2: light that rises or falls along a row, along a column, diagonally; some dark module is lighter than the painted plane's light ones."""
+    """Light that rises or falls along a row, along a column, diagonally; some dark module is lighter than the painted plane's light ones."""
     numbers = Numbers(8_002)
     ways = [lambda x, y: x, lambda x, y: y, lambda x, y: (x + y) / 2, lambda x, y: 1 - x, lambda x, y: 1 - y, lambda x, y: (x + 1 - y) / 2]
     for k, way in enumerate(ways + ways[:4]):
@@ -483,7 +483,7 @@ def gradients(out, families):
 
 
 def random_levels(out, families):
-    """3: any levels that meet the condition."""
+    """Any levels that meet the condition."""
     numbers = Numbers(8_003)
     for k, cell in enumerate([1, 1, 1, 1, 2, 3, 1]):
         family = families[k % 5]
@@ -497,7 +497,7 @@ def random_levels(out, families):
 
 
 def other_words(out, families):
-    """3: lit words that have no code near, or have one only after turns."""
+    """Lit words that have no code near, or have one only after turns."""
     numbers = Numbers(8_013)
     for family in families:
         number, word = family.number, family.codes[numbers.below(len(family.codes))]
@@ -513,7 +513,7 @@ def other_words(out, families):
 
 
 def rest_of_picture(out, families):
-    """4: the rest is the painted plane with its shades exchanged, or 0 for its light and 255 for its dark, or all 0, or all 255, or as painted."""
+    """The rest is the painted plane with its shades exchanged, or 0 for its light and 255 for its dark, or all 0, or all 255, or as painted."""
     numbers = Numbers(8_004)
     rests = {
         "exchanged": lambda printed, light: printed.dark if light else printed.light,
@@ -546,7 +546,7 @@ def rest_of_picture(out, families):
 
 
 def too_flat(out, families):
-    """5: everything 10 from the middle, but least and greatest only 49 apart; the last has four unsure modules too, and 11 comes first."""
+    """Everything 10 from the middle, but least and greatest only 49 apart; the last has four unsure modules too, and 11 comes first."""
     numbers = Numbers(8_005)
     for number, least in [(0, 0), (2, 206), (4, 31)]:
         scene = any_scene(families[number], 0, 1, number % 4, numbers, corner=number != 2)
@@ -562,7 +562,7 @@ def too_flat(out, families):
 
 
 def unsure_modules(out, families):
-    """5: some dark and some light modules 9 from the middle: with up to three the tag is still read, with four it is 12."""
+    """Some dark and some light modules 9 from the middle: with up to three the tag is still read, with four it is 12."""
     numbers = Numbers(8_015)
     for k, (dark, light) in enumerate([(1, 0), (3, 0), (4, 0), (0, 1), (0, 2), (0, 3), (0, 4), (2, 2)]):
         family = families[[4, 0, 1, 3, 4, 2, 0, 4][k]]
@@ -578,7 +578,7 @@ def unsure_modules(out, families):
 
 
 def wrong_sides(out, families):
-    """5: modules at the middle, which reads dark, or beyond it."""
+    """Modules at the middle, which reads dark, or beyond it."""
     numbers = Numbers(8_025)
     # Family, light or dark modules, how many of them, their distance above the middle, modules misprinted, modules read as differing or None for 13.
     cases = [
@@ -608,7 +608,7 @@ def wrong_sides(out, families):
 
 
 def negatives(out, families):
-    """5: every module exchanged; a misprinted module shown as its code has it; words of one shade alone, which no light makes lit."""
+    """Every module exchanged; a misprinted module shown as its code has it; words of one shade alone, which no light makes lit."""
     numbers = Numbers(8_035)
     for number in (0, 3):
         scene = any_scene(families[number], 0, 1, 1 + number % 2, numbers, corner=True)
@@ -631,7 +631,7 @@ def negatives(out, families):
 
 
 def whole_middles(out, families):
-    """5: the middle over the whole picture says otherwise. Two that it alone would call lit, and two that it would not, though they are."""
+    """The middle over the whole picture says otherwise. Two that it alone would call lit, and two that it would not, though they are."""
     numbers = Numbers(8_045)
 
     def one_glares(lights, common):
@@ -684,7 +684,7 @@ def sheet_frames(out, picture, scenes, lit):
 
 
 def slanted_sheets(out, families):
-    """6: light that rises over a whole painted sheet; a dark module of one tag is lighter than a light module of another."""
+    """Light that rises over a whole painted sheet; a dark module of one tag is lighter than a light module of another."""
     cases = [
         (0, 2, 2, 1, 0, (0, 0), 8, 0),
         (3, 2, 3, 1, 1, (0, 0), 4, 3),
@@ -706,7 +706,7 @@ def slanted_sheets(out, families):
 
 
 def mixed_sheets(out, families):
-    """6: sheets in noise; each tag is lit in its own way, or is negative, too flat, unsure or noise, or shows the code of another position."""
+    """Sheets in noise; each tag is lit in its own way, or is negative, too flat, unsure or noise, or shows the code of another position."""
     numbers = Numbers(8_006)
 
     def levels_of(scene, way):
