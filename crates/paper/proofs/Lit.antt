@@ -82,7 +82,7 @@ module _ (family : Family) (codes : List ℕ) (id w : ℕ) (printed : Printed fa
       (shades k (subst (λ (n : ℕ). k < n) size h) ∙ ap (λ (n : ℕ). shadeOfBit light dark (bit w (n - 1 - k))) (sym size))
       (each-at (length levels) cleared all-clear k h)
 
-  pub lit-read : reading picture seen family codes q ≡ accepted (record { id = id; turn = 0; differing = differing w (getD codes id 0); corners = answerCorners q 0 })
+  lit-read : reading picture seen family codes q ≡ accepted (record { id = id; turn = 0; differing = differing w (getD codes id 0); corners = answerCorners q 0 })
   lit-read =
       clear-read picture seen family codes q id w taken printed clearance (omega arith) (omega (arith, leb-true leastContrast (greatestOf levels - leastOf levels) apart-enough)) clear
 
@@ -160,7 +160,7 @@ module _ (family : Family) (codes : List ℕ) (id word : ℕ) (plane : List ℕ)
   own-taken : Taken frame family quad
   own-taken = subst (Taken frame family) (sym (tag .quad-is)) (taken plane frame family codes id word print print-is (tag .prints))
 
-  pub own-shades : (k : ℕ) → k < samples family → getD (levelsOf shown frame family (axesOf quad)) k 0 ≡ shadeOfBit (print .light) (print .dark) (bit word (samples family - 1 - k))
+  own-shades : (k : ℕ) → k < samples family → getD (levelsOf shown frame family (axesOf quad)) k 0 ≡ shadeOfBit (print .light) (print .dark) (bit word (samples family - 1 - k))
   own-shades k h =
       ap₂ (λ (p : List ℕ) (q : Quad). getD (levelsOf p frame family (axesOf q)) k 0) (tag .shown-is) (tag .quad-is)
       ∙ level-at plane frame family codes id word print print-is (tag .prints) k h
