@@ -37,12 +37,12 @@ LIST = re.compile(r"(?<=<!-- definitions -->\n).*?(?=<!-- end -->)", re.S)
 def crates():
     """The crates in the order of crates.txt."""
     lines = (ROOT / "crates.txt").read_text(encoding="utf8").splitlines()
-    return [line.split(":")[0].strip() for line in lines if ":" in line and not line.startswith("#")]
+    return [line.split(":")[0].split()[0] for line in lines if ":" in line and not line.startswith("#")]
 
 
 def imported(file):
     """The files of definitions that a file imports."""
-    for crate, module in re.findall(r"use Rattle·(\w+?)(?:·specs)?(?:\.specs)+\.([\w.]+?)(?: as|\.\{|;|$)", file.read_text(encoding="utf8"), re.M):
+    for crate, module in re.findall(r"use Rattle\.(\w+)\.specs\.([\w.]+?)(?: as|\.\{|;|$)", file.read_text(encoding="utf8"), re.M):
         found = ROOT / "crates" / crate / "specs" / (module.replace(".", "/") + ".antt")
         if found.exists():
             yield found

@@ -1,4 +1,4 @@
-//! Finds `libmuosleap_c.a`: in the folder that MUOSLEAP_LIB_DIR names, else where `rt staticlib muosleap_c` puts it.
+//! Finds `libmuosleap_c.a`: in the folder that MUOSLEAP_LIB_DIR names, else where `rt lib` in crates/muosleap_c puts it.
 
 use std::{env, path::PathBuf, process::exit};
 
@@ -7,14 +7,14 @@ fn main() {
     let root = PathBuf::from(env::var_os("CARGO_MANIFEST_DIR").unwrap());
     let folder = match env::var_os("MUOSLEAP_LIB_DIR") {
         Some(folder) => root.join(folder),
-        None => root.join("../../target/staticlib"),
+        None => root.join("../../crates/muosleap_c/out"),
     };
     let archive = folder.join("libmuosleap_c.a");
     println!("cargo::rerun-if-changed={}", archive.display());
     if !archive.exists() {
         println!("cargo::error=there is no {}", archive.display());
         println!(
-            "cargo::error=make it with `rt staticlib muosleap_c` at the root of the repository, or name its folder in MUOSLEAP_LIB_DIR"
+            "cargo::error=make it with `rt lib` in crates/muosleap_c, or name its folder in MUOSLEAP_LIB_DIR"
         );
         exit(1);
     }

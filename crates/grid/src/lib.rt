@@ -14,7 +14,7 @@ use refusals::Frame;
 use tables::Family;
 
 // The tags in a column of the grid and in a row of it, and the cells of the gap between two of them.
-#[derive(Drop)]
+#[derive(Clone, Copy)]
 pub struct Grid {
     pub rows: usize,
     pub columns: usize,

@@ -6,7 +6,7 @@ ghost use Rattle.likeness.specs.Likeness.{mixed, passes_at, likeness};
 ghost use Rattle.likeness.specs.Turned.{FourTurns, far_from, far_self};
 
 // A code, and the code turned once, twice and three times.
-#[derive(Drop)]
+#[derive(Clone, Copy)]
 pub struct Turns {
     pub w0: u64,
     pub w1: u64,

@@ -12,7 +12,7 @@ use points::{Point, Quad};
 use refusals::Frame;
 
 // What a painting takes: the upper left pixel of the tag, or of a sheet's grid, the pixels of a cell's side, the turn and the two shades.
-#[derive(Drop)]
+#[derive(Clone, Copy)]
 pub struct Print {
     pub x: usize,
     pub y: usize,

@@ -10,7 +10,7 @@ ghost use Rattle.places.specs.Bounds.{Module};
 use points::{Point, Quad};
 
 // S, A and B, in 1024ths of a pixel.
-#[derive(Drop)]
+#[derive(Clone, Copy)]
 pub struct Axis {
     pub s: i64,
     pub a: i64,
@@ -18,7 +18,7 @@ pub struct Axis {
 }
 
 // Those of the four x, and those of the four y.
-#[derive(Drop)]
+#[derive(Clone, Copy)]
 pub struct Axes {
     pub x: Axis,
     pub y: Axis,

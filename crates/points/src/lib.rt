@@ -7,13 +7,13 @@ ghost use Rattle.points.specs.Numbers.{quad_size, point_at, quad_at, numbers_of}
 // The numbers of a quad: x0 y0 x1 y1 x2 y2 x3 y3.
 pub const QUAD_SIZE: usize = 8;
 
-#[derive(Drop)]
+#[derive(Clone, Copy)]
 pub struct Point {
     pub x: f32,
     pub y: f32,
 }
 
-#[derive(Drop)]
+#[derive(Clone, Copy)]
 pub struct Quad {
     pub q0: Point,
     pub q1: Point,

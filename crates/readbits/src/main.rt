@@ -1,4 +1,6 @@
 // Reads words of T16H5, a line each, and prints the id and turn of each. The input beside it is document 01's example.
-fn main() {
-    readbits_run::run();
+use std::io;
+
+fn main(rt: HostRuntime) -> io::Result<()> {
+    readbits_run::run(&mut rt.reader(), &mut io::writer(&rt))
 }

@@ -1,5 +1,5 @@
 // What `readbits` prints for the bytes that it has read.
-ghost use Rattle.std.specs.Prelude.{◌≡◌, cond, [], ◌∷◌, ◌++◌, ◌+◌, ◌*◌, ◌≤◌, length};
+ghost use Rattle.std.specs.Prelude.{◌≡◌, cond, [], ◌∷◌, ◌++◌, ◌+◌, ◌*◌, ◌≤◌, ◌<◌, ◌≢◌, ℕ, length, slice_index};
 ghost use Rattle.readbits_lines.specs.Word.{is_digit, digit_number, is_word, number_of};
 ghost use Rattle.text.specs.Text.{line_feed};
 ghost use Rattle.search.specs.Answer.{paper_found};
@@ -88,6 +88,20 @@ fn put_line(line: &[u8], out: &mut [u8], at: usize) -> usize
     put_answer(bits, out, word_end)
 }
 
+// Where the line that starts at `at` ends: at its line feed, or at the end of the input.
+fn line_end(input: &[u8], at: usize) -> usize
+    requires { at ≤ length input.now }
+    ensures within { (at ≤ result) × (result ≤ length input.now) }
+    ensures before { (k : ℕ) → at ≤ k → k < result → slice_index input.now k ≢ line_feed }
+    ensures feed { result < length input.now → slice_index input.now result ≡ line_feed }
+{
+    let mut end = at;
+    while end < input.len() && input[end] != b'\n' {
+        end += 1;
+    }
+    end
+}
+
 // Prints `input` into `out`, and gives the number of bytes printed. No line prints more than four bytes for each byte
 // that it has, its line feed or the end counted: `bad` and a line feed for an empty line is the most.
 pub fn read_lines(input: &[u8], out: &mut [u8]) -> usize
@@ -97,7 +111,7 @@ pub fn read_lines(input: &[u8], out: &mut [u8]) -> usize
     let mut at = 0;
     let mut done = 0;
     while at < input.len() {
-        let end = bytes::scan::find(input, at, input.len(), b'\n');
+        let end = line_end(input, at);
         done = put_line(&input[at..end], out, done);
         at = end + 1;
     }

@@ -15,7 +15,7 @@ use refusals::Frame;
 use search::Found;
 use tables::Family;
 
-#[derive(Drop)]
+#[derive(Clone, Copy)]
 pub enum Reading {
     Tag {
         id: usize,

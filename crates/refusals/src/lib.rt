@@ -5,7 +5,7 @@ ghost use Rattle.refusals.specs.Plane.{bad_sides, bad_plane};
 ghost use Rattle.refusals.specs.Pixels.{packed_frame, bad_pitch, bad_frame, place_of, SmallFrame};
 
 // The sides of a plane of floats.
-#[derive(Drop)]
+#[derive(Clone, Copy)]
 pub struct Shape {
     pub width: usize,
     pub height: usize,
@@ -13,7 +13,7 @@ pub struct Shape {
 
 // The sides of an 8-bit plane, and its pitch: the bytes from the start of a line to the start of the next. The pitch - width
 // bytes behind each line but the last are filler, which is never read and never written.
-#[derive(Drop)]
+#[derive(Clone, Copy)]
 pub struct Frame {
     pub width: usize,
     pub height: usize,

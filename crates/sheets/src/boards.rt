@@ -1,7 +1,7 @@
 // A whole sheet, painted and read: each of its tags from its four starts, alone and in lists.
 ghost use Rattle.std.specs.Prelude.{◌+◌, ◌*◌, ◌≤◌, length};
 
-use crate::lists::read_list;
+use crate::list_readings::read_list;
 use crate::prints::{Sheet, four_starts, own};
 use grid::Grid;
 use muosleap::quads::Listed;

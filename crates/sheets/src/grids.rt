@@ -2,10 +2,11 @@
 ghost use Rattle.std.specs.Prelude.{◌<◌, ◌≤◌};
 
 use crate::boards::{Board, readings, refusal_of, tags_of};
-use crate::lists::refused;
+use crate::list_readings::refused;
 use crate::{codes, kinds};
 use grid::Grid;
 use refusals::packed_frame;
+use std::io;
 use tables::Family;
 use vectors::{Tally, least, product, report, say};
 
@@ -109,26 +110,26 @@ fn refusal(plane: &mut [u8], table: &[u64], board: Board) -> u8 {
     refusal_of(&mut plane[0..n], table, board)
 }
 
-fn say_sides(grid: Grid) {
-    say(b"  sheets of ", grid.rows as u64);
-    say(b" x ", grid.columns as u64);
+fn say_sides(rt: &impl Print, grid: Grid) -> io::Result<()> {
+    say(rt, "  sheets of ", grid.rows as u64)?;
+    say(rt, " x ", grid.columns as u64)
 }
 
 // The line of grid g.
-fn line(plane: &mut [u8], table: &[u64], number: u8, g: usize) {
-    say_sides(nth(number, g, 0));
+fn line(rt: &impl Print, plane: &mut [u8], table: &[u64], number: u8, g: usize) -> io::Result<()> {
+    say_sides(rt, nth(number, g, 0))?;
     if is_good(number, g) {
-        report(b":", one_grid(plane, table, number, g));
-        return;
+        return report(rt, ":", one_grid(plane, table, number, g));
     }
-    refused(refusal(plane, table, nth_board(number, g, 0)));
+    refused(rt, refusal(plane, table, nth_board(number, g, 0)))
 }
 
 // The lines of a table.
-pub fn all(plane: &mut [u8], table: &[u64], number: u8) {
+pub fn all(rt: &impl Print, plane: &mut [u8], table: &[u64], number: u8) -> io::Result<()> {
     let mut g = 0;
     while g < 12 {
-        line(plane, table, number, g);
+        line(rt, plane, table, number, g)?;
         g += 1;
     }
+    Ok(())
 }

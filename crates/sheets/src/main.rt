@@ -6,11 +6,11 @@ mod boards;
 mod codes;
 mod grids;
 mod kinds;
-mod lists;
+mod list_readings;
 mod prints;
 
-use libc::STDOUT_FILENO;
 use muosleap::detector::{Likeness, check_likeness};
+use std::io;
 use vectors::{Tally, report};
 
 // As many bytes as the largest plane has: a tag of side 10 in cells of 64, and one pixel more.
@@ -27,56 +27,59 @@ fn likeness(table: &[u64], number: u8) -> Tally {
 }
 
 // The lines of a table.
-fn sheets(plane: &mut [u8], table: &[u64], number: u8) {
-    report(b"  likeness:", likeness(table, number));
+fn sheets(rt: &impl Print, plane: &mut [u8], table: &[u64], number: u8) -> io::Result<()> {
+    report(rt, "  likeness:", likeness(table, number))?;
     report(
-        b"  every code:",
+        rt,
+        "  every code:",
         kinds::all(plane, table, number, kinds::TURNS),
-    );
+    )?;
     report(
-        b"  misprinted:",
+        rt,
+        "  misprinted:",
         kinds::all(plane, table, number, kinds::MISPRINTS),
-    );
+    )?;
     report(
-        b"  in the plane's corners:",
+        rt,
+        "  in the plane's corners:",
         kinds::all(plane, table, number, kinds::CORNERS),
-    );
+    )
 }
 
 // All sheets of a table by its number.
-fn table(plane: &mut [u8], number: u8) {
+fn table(rt: &impl Print, plane: &mut [u8], number: u8) -> io::Result<()> {
     let mut room = [0u64; 1024];
     let n = codes::count(number);
     codes::load(number, &mut room);
-    sheets(plane, &room[0..n], number);
-    lists::all(plane, &room[0..n], number);
-    grids::all(plane, &room[0..n], number);
+    sheets(rt, plane, &room[0..n], number)?;
+    list_readings::all(rt, plane, &room[0..n], number)?;
+    grids::all(rt, plane, &room[0..n], number)
 }
 
-fn named(plane: &mut [u8], number: u8, name: &[u8]) {
-    io::write_all(STDOUT_FILENO, name);
-    table(plane, number);
+fn named(rt: &impl Print, plane: &mut [u8], number: u8, name: &str) -> io::Result<()> {
+    println!(rt; "{name}")?;
+    table(rt, plane, number)
 }
 
-fn small_families(plane: &mut [u8]) {
-    named(plane, 0, b"T16H5\n");
-    named(plane, 1, b"T25H7\n");
-    named(plane, 2, b"T25H9\n");
+fn small_families(rt: &impl Print, plane: &mut [u8]) -> io::Result<()> {
+    named(rt, plane, 0, "T16H5")?;
+    named(rt, plane, 1, "T25H7")?;
+    named(rt, plane, 2, "T25H9")
 }
 
-fn large_families(plane: &mut [u8]) {
-    named(plane, 3, b"T36H11\n");
-    named(plane, 4, b"T36H11B1\n");
+fn large_families(rt: &impl Print, plane: &mut [u8]) -> io::Result<()> {
+    named(rt, plane, 3, "T36H11")?;
+    named(rt, plane, 4, "T36H11B1")
 }
 
-fn own_tables(plane: &mut [u8]) {
-    named(plane, 5, b"a table of edge 8\n");
-    named(plane, 6, b"a table of edge 3\n");
+fn own_tables(rt: &impl Print, plane: &mut [u8]) -> io::Result<()> {
+    named(rt, plane, 5, "a table of edge 8")?;
+    named(rt, plane, 6, "a table of edge 3")
 }
 
-fn main() {
+fn main(rt: HostRuntime) -> io::Result<()> {
     let mut plane = canvas();
-    small_families(&mut plane);
-    large_families(&mut plane);
-    own_tables(&mut plane);
+    small_families(&rt, &mut plane)?;
+    large_families(&rt, &mut plane)?;
+    own_tables(&rt, &mut plane)
 }

@@ -10,7 +10,7 @@ use vectors::{Tally, product};
 
 // What is painted: the table by its number and as it is lent, the code by its position, the word for it, how many of the code's modules
 // are misprinted in it, the print, and the plane's frame.
-#[derive(Drop)]
+#[derive(Clone, Copy)]
 pub struct Sheet {
     pub number: u8,
     pub family: Family,

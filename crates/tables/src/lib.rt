@@ -4,7 +4,7 @@ ghost use Rattle.lists.specs.Tab.{all};
 ghost use Rattle.tables.specs.Table.{outside, bad_edge, bad_border, below, in_square, bad_codes, bad_table};
 
 // The edge of the square of modules, the border around it in modules, and the match threshold.
-#[derive(Drop)]
+#[derive(Clone, Copy)]
 pub struct Family {
     pub edge: u8,
     pub border: u8,

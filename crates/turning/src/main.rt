@@ -1,7 +1,7 @@
 // Prints the tables of turned places from the formula, a line for each edge from 4 to 6.
-use libc::STDOUT_FILENO;
+use std::io;
 
-fn main() {
+fn main(rt: HostRuntime) -> io::Result<()> {
     let text = turning_lines::table_lines();
-    io::write_all(STDOUT_FILENO, &text);
+    rt.write_all(&text)
 }

@@ -6,7 +6,7 @@ use points::{Point, QUAD_SIZE, Quad};
 use reader::Reading;
 
 // A refusal number, 0 where there is none, id, turn, differing modules and corners.
-#[derive(Drop)]
+#[derive(Clone, Copy)]
 pub struct Answer {
     pub refusal: u64,
     pub id: u64,

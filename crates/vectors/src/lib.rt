@@ -3,22 +3,24 @@
 pub mod answers;
 pub mod floats;
 
-ghost use Rattle.std.specs.Prelude.{◌<◌, ◌≤◌, length};
-ghost use Rattle.io.specs.Counts.{IsPrefixLen};
+ghost use Rattle.std.specs.Prelude.{◌≡◌, ◌<◌, ◌≤◌, length, IfOk};
 
-use libc::STDOUT_FILENO;
+use std::rt::Files;
+use std::{fs, io};
+
+// 65,536 zeros, which hold any file of frames.
+pub fn large_buffer() -> [u8; 65536]
+    ensures { 65536 ≡ length result }
+{
+    [0; 65536]
+}
 
 // Reads the file into `buffer`, and answers how many bytes it has there.
-pub fn load(path: &[u8], buffer: &mut [u8]) -> usize
-    ensures { IsPrefixLen result buffer.new }
+pub fn load<R: Files>(rt: &R, path: &str, buffer: &mut [u8]) -> io::Result<usize>
+    ensures { IfOk result (λ n. n ≤ length buffer.new) }
 {
-    let fd = os::open_read(path);
-    if fd < 0 {
-        os::fail(path);
-    }
-    let n = io::read_full(fd, buffer);
-    libc::close(fd);
-    n
+    let mut file = fs::open(rt, path)?;
+    filling::fill(&mut file, buffer)
 }
 
 pub fn least(a: usize, b: usize) -> usize
@@ -129,21 +131,20 @@ impl Tally {
 }
 
 // Prints a text and a number.
-pub fn say(text: &[u8], number: u64) {
-    io::write_all(STDOUT_FILENO, text);
-    io::print_decimal(STDOUT_FILENO, number);
+pub fn say(rt: &impl Print, text: &str, number: u64) -> io::Result<()> {
+    print!(rt; "{text}{number}")
 }
 
 // Prints a line with the counts and, where they differ, another that says where.
-pub fn report(name: &[u8], tally: Tally) {
-    io::write_all(STDOUT_FILENO, name);
-    say(b" ", tally.alike);
-    say(b" of ", tally.seen);
-    io::write_all(STDOUT_FILENO, b" alike\n");
-    if tally.alike != tally.seen {
-        say(b"  the last that differs is at ", tally.other as u64);
-        io::write_all(STDOUT_FILENO, b"\n");
+pub fn report(rt: &impl Print, name: &str, tally: Tally) -> io::Result<()> {
+    let alike = tally.alike;
+    let seen = tally.seen;
+    let other = tally.other;
+    println!(rt; "{name} {alike} of {seen} alike")?;
+    if alike != seen {
+        println!(rt; "  the last that differs is at {other}")?;
     }
+    Ok(())
 }
 
 // The number after x: xorshift with the shifts 13, 7, 17.

@@ -1,8 +1,10 @@
 // Replays what the original's blur, response, threshold, clusters and centres answered, and the limits of document 01, against the
 // public entries on pictures. tools/oracle/README.md says how the files were made.
-mod clusters;
+mod cluster_frames;
 mod planes;
 
+use std::io;
+use std::rt::Files;
 use vectors::{Tally, u8_at};
 
 // Files of frames on planes, and files of frames on clusters.
@@ -14,7 +16,7 @@ const CLUSTERS: u8 = 1;
 fn alike(flow: u8, frame: &[u8]) -> bool {
     let kind = u8_at(frame, 0);
     if flow == CLUSTERS {
-        return clusters::alike(kind, frame);
+        return cluster_frames::alike(kind, frame);
     }
     planes::alike(kind, frame)
 }
@@ -29,18 +31,18 @@ fn replay(flow: u8, s: &[u8]) -> Tally {
     tally
 }
 
-fn replay_file(flow: u8, name: &[u8]) {
-    let mut buffer = io::large_buffer();
-    let n = vectors::load(name, &mut buffer);
-    vectors::report(name, replay(flow, &buffer[..n]));
+fn replay_file<R: Files + Print>(rt: &R, flow: u8, name: &str) -> io::Result<()> {
+    let mut buffer = vectors::large_buffer();
+    let n = vectors::load(rt, name, &mut buffer)?;
+    vectors::report(rt, name, replay(flow, &buffer[..n]))
 }
 
-fn main() {
-    replay_file(PLANES, b"blur");
-    replay_file(PLANES, b"response");
-    replay_file(PLANES, b"threshold");
-    replay_file(PLANES, b"refusals");
-    replay_file(CLUSTERS, b"clusters");
-    replay_file(CLUSTERS, b"center");
-    replay_file(CLUSTERS, b"cluster_refusals");
+fn main(rt: HostRuntime) -> io::Result<()> {
+    replay_file(&rt, PLANES, "blur")?;
+    replay_file(&rt, PLANES, "response")?;
+    replay_file(&rt, PLANES, "threshold")?;
+    replay_file(&rt, PLANES, "refusals")?;
+    replay_file(&rt, CLUSTERS, "clusters")?;
+    replay_file(&rt, CLUSTERS, "center")?;
+    replay_file(&rt, CLUSTERS, "cluster_refusals")
 }

@@ -40,7 +40,7 @@ pub fn wide_shape(s: &[u8]) -> Shape {
 
 // What a frame says of a call of the blur or the response: the entry, the sides, the rule of the picture's samples and where they
 // stand, those of the weights, and the lengths of the four lists.
-#[derive(Drop)]
+#[derive(Clone, Copy)]
 struct Call {
     entry: u8,
     shape: Shape,

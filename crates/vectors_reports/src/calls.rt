@@ -36,7 +36,7 @@ pub fn corners_before() -> [f32; 8208]
 
 // The refusal number, 0 where there is none; how many bytes were written or rows read, and their digest, both 0 where the call is
 // refused; and whether all else in the outputs is as before.
-#[derive(Drop)]
+#[derive(Clone, Copy)]
 pub struct Outcome {
     pub refusal: u8,
     pub count: usize,

@@ -4,7 +4,7 @@ use crate::calls::Outcome;
 use vectors::{digest_u8, digest_u64, first, least, rest, u8_at};
 
 // At the place stands the byte, instead of as many bytes of the report as are skipped: none, one, two, or all.
-#[derive(Drop)]
+#[derive(Clone, Copy)]
 struct Damage {
     place: usize,
     byte: u8,

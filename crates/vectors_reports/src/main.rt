@@ -5,6 +5,8 @@ mod calls;
 mod damage;
 mod given;
 
+use std::io;
+use std::rt::Files;
 use vectors::{Tally, least, rest, u8_at, u16_at};
 
 // A reading to be written, at the lengths that stand behind what is expected, with as long an output as stands there too.
@@ -59,13 +61,13 @@ fn replay(s: &[u8]) -> Tally {
     tally
 }
 
-fn replay_file(name: &[u8]) {
-    let mut buffer = io::large_buffer();
-    let n = vectors::load(name, &mut buffer);
-    vectors::report(name, replay(&buffer[..n]));
+fn replay_file<R: Files + Print>(rt: &R, name: &str) -> io::Result<()> {
+    let mut buffer = vectors::large_buffer();
+    let n = vectors::load(rt, name, &mut buffer)?;
+    vectors::report(rt, name, replay(&buffer[..n]))
 }
 
-fn main() {
-    replay_file(b"writing");
-    replay_file(b"reading");
+fn main(rt: HostRuntime) -> io::Result<()> {
+    replay_file(&rt, "writing")?;
+    replay_file(&rt, "reading")
 }

@@ -106,8 +106,8 @@ fn laid_out_alike(
 
 // The painted plane has the picture's width and height, and no filler.
 pub fn lit_alike(record: &[u8], lent: &[u8], layout: u8) -> bool {
-    let mut plane = io::large_buffer();
-    let mut picture = io::large_buffer();
+    let mut plane = vectors::large_buffer();
+    let mut picture = vectors::large_buffer();
     let width = u16_at(lent, 1) as usize;
     let height = u16_at(lent, 3) as usize;
     let own = padded::frame_of(padded::PACKED, width, height);

@@ -10,7 +10,8 @@ mod quads;
 mod sheets;
 mod words;
 
-use libc::STDOUT_FILENO;
+use std::io;
+use std::rt::Files;
 use vectors::{Tally, u8_at};
 
 // Files of frames on words, levels, quads and paintings.
@@ -50,65 +51,74 @@ fn replay(flow: u8, s: &[u8], layout: u8) -> Tally {
     tally
 }
 
-fn replay_at(layout: u8, flow: u8, name: &[u8]) {
-    let mut buffer = io::large_buffer();
-    let n = vectors::load(name, &mut buffer);
-    vectors::report(name, replay(flow, &buffer[..n], layout));
+fn replay_at<R: Files + Print>(rt: &R, layout: u8, flow: u8, name: &str) -> io::Result<()> {
+    let mut buffer = vectors::large_buffer();
+    let n = vectors::load(rt, name, &mut buffer)?;
+    vectors::report(rt, name, replay(flow, &buffer[..n], layout))
 }
 
-fn replay_file(flow: u8, name: &[u8]) {
-    replay_at(padded::PACKED, flow, name);
+fn replay_file<R: Files + Print>(rt: &R, flow: u8, name: &str) -> io::Result<()> {
+    replay_at(rt, padded::PACKED, flow, name)
 }
 
-fn replay_words() {
-    replay_file(WORDS, b"rotate_bits");
-    replay_families();
-    replay_file(WORDS, b"lent");
-    replay_file(WORDS, b"limits");
-    replay_file(WORDS, b"likeness");
-    replay_file(WORDS, b"compared");
+fn replay_words<R: Files + Print>(rt: &R) -> io::Result<()> {
+    replay_file(rt, WORDS, "rotate_bits")?;
+    replay_families(rt)?;
+    replay_file(rt, WORDS, "lent")?;
+    replay_file(rt, WORDS, "limits")?;
+    replay_file(rt, WORDS, "likeness")?;
+    replay_file(rt, WORDS, "compared")
 }
 
-fn replay_families() {
-    replay_file(WORDS, b"t16h5");
-    replay_file(WORDS, b"t25h7");
-    replay_file(WORDS, b"t25h9");
-    replay_file(WORDS, b"t36h11");
-    replay_file(WORDS, b"t36h11b1");
+fn replay_families<R: Files + Print>(rt: &R) -> io::Result<()> {
+    replay_file(rt, WORDS, "t16h5")?;
+    replay_file(rt, WORDS, "t25h7")?;
+    replay_file(rt, WORDS, "t25h9")?;
+    replay_file(rt, WORDS, "t36h11")?;
+    replay_file(rt, WORDS, "t36h11b1")
 }
 
-fn replay_quads() {
-    replay_file(QUADS, b"corners");
-    replay_file(QUADS, b"readings");
-    replay_file(QUADS, b"lists");
-    replay_file(QUADS, b"refusals");
-    replay_file(QUADS, b"light");
+fn replay_quads<R: Files + Print>(rt: &R) -> io::Result<()> {
+    replay_file(rt, QUADS, "corners")?;
+    replay_file(rt, QUADS, "readings")?;
+    replay_file(rt, QUADS, "lists")?;
+    replay_file(rt, QUADS, "refusals")?;
+    replay_file(rt, QUADS, "light")
 }
 
 // The files of pictures at a layout with filler, under a heading that gives the pitch. What is not packed, or has no room so, is
 // replayed as it is and counted too.
-fn replay_padded(layout: u8, heading: &[u8]) {
-    io::write_all(STDOUT_FILENO, heading);
-    replay_at(layout, QUADS, b"readings");
-    replay_at(layout, QUADS, b"lists");
-    replay_at(layout, QUADS, b"light");
-    replay_at(layout, PAINTER, b"paintings");
-    replay_at(layout, PAINTER, b"prints");
-    replay_at(layout, PAINTER, b"sheets");
+fn replay_padded<R: Files + Print>(rt: &R, layout: u8, heading: &str) -> io::Result<()> {
+    println!(rt; "{heading}")?;
+    replay_at(rt, layout, QUADS, "readings")?;
+    replay_at(rt, layout, QUADS, "lists")?;
+    replay_at(rt, layout, QUADS, "light")?;
+    replay_at(rt, layout, PAINTER, "paintings")?;
+    replay_at(rt, layout, PAINTER, "prints")?;
+    replay_at(rt, layout, PAINTER, "sheets")
 }
 
-fn main() {
-    replay_words();
-    replay_file(LEVELS, b"bit_code");
-    replay_quads();
-    replay_file(PAINTER, b"paintings");
-    replay_file(PAINTER, b"prints");
-    replay_file(PAINTER, b"sheets");
-    replay_padded(padded::ZERO, b"packed planes again at pitch width + 1:\n");
-    replay_padded(padded::FULL, b"packed planes again at pitch width + 13:\n");
-    replay_padded(padded::NOISE, b"packed planes again at pitch 2 x width:\n");
+fn main(rt: HostRuntime) -> io::Result<()> {
+    replay_words(&rt)?;
+    replay_file(&rt, LEVELS, "bit_code")?;
+    replay_quads(&rt)?;
+    replay_file(&rt, PAINTER, "paintings")?;
+    replay_file(&rt, PAINTER, "prints")?;
+    replay_file(&rt, PAINTER, "sheets")?;
+    replay_padded(&rt, padded::ZERO, "packed planes again at pitch width + 1:")?;
     replay_padded(
+        &rt,
+        padded::FULL,
+        "packed planes again at pitch width + 13:",
+    )?;
+    replay_padded(
+        &rt,
+        padded::NOISE,
+        "packed planes again at pitch 2 x width:",
+    )?;
+    replay_padded(
+        &rt,
         padded::NEXT_LINE,
-        b"packed planes again at pitch width + 7:\n",
-    );
+        "packed planes again at pitch width + 7:",
+    )
 }

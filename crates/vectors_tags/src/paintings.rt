@@ -66,7 +66,7 @@ fn has_room(own: Frame, length: usize, frame: Frame) -> bool {
 
 // A packed plane is painted at the layout. Any other, and one that has no room so, is painted as it is.
 fn painting_alike(record: &[u8], layout: u8) -> bool {
-    let mut plane = io::large_buffer();
+    let mut plane = vectors::large_buffer();
     let own = padded::frame_at(rest(record, 1));
     let length = least(u32_at(record, 25) as usize, 65536);
     let frame = padded::frame_of(layout, own.width, own.height);
@@ -120,7 +120,7 @@ fn print_alike(record: &[u8], frame: Frame, plane: &mut [u8]) -> bool {
 }
 
 fn tag_alike(record: &[u8], layout: u8) -> bool {
-    let mut plane = io::large_buffer();
+    let mut plane = vectors::large_buffer();
     let frame = padded::frame_of(layout, u8_at(record, 1) as usize, u8_at(record, 2) as usize);
     let n = padded::bytes_of(frame);
     print_alike(record, frame, &mut plane[0..n])

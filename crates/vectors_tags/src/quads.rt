@@ -107,7 +107,7 @@ fn plane_alike(
 }
 
 fn picture_alike(kind: u8, frame: &[u8], lent: &[u8], layout: u8) -> bool {
-    let mut plane = io::large_buffer();
+    let mut plane = vectors::large_buffer();
     let picture = padded::frame_of(layout, u16_at(lent, 1) as usize, u16_at(lent, 3) as usize);
     let n = padded::bytes_of(picture);
     plane_alike(kind, frame, lent, layout, picture, &mut plane[0..n])

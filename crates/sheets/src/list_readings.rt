@@ -2,10 +2,10 @@
 use crate::kinds;
 use crate::kinds::sheet_of;
 use crate::prints::{Sheet, own, paint};
-use libc::STDOUT_FILENO;
 use muosleap::quads::{Listed, try_decode_quads, try_decode_quads_in};
 use muosleap_paint::painting::Painted;
 use points::{Quad, rotate_left};
+use std::io;
 use vectors::answers::{Answer, row_at, same};
 use vectors::{Tally, answers, least, product, report, say};
 
@@ -66,36 +66,52 @@ pub fn read_list(
     try_decode_quads(plane, frame, sheet.family, table, quads, rows, corners)
 }
 
-pub fn refused(number: u8) {
-    say(b" refused by ", number as u64);
-    io::write_all(STDOUT_FILENO, b"\n");
+pub fn refused(rt: &impl Print, number: u8) -> io::Result<()> {
+    say(rt, " refused by ", number as u64)?;
+    println!(rt; "")
 }
 
 // Prints how many rows of a list are right, or the refusal's number.
-fn listed(plane: &[u8], table: &[u64], sheet: Sheet, quad: Quad, first: u8, quads: &[f32]) {
+fn listed(
+    rt: &impl Print,
+    plane: &[u8],
+    table: &[u64],
+    sheet: Sheet,
+    quad: Quad,
+    first: u8,
+    quads: &[f32],
+) -> io::Result<()> {
     let mut rows = [9u64; 4100];
     let mut corners = [9.0f32; 8200];
     match read_list(plane, table, sheet, quads, &mut rows, &mut corners) {
-        Listed::Refused(number) => refused(number),
-        Listed::Done(n) => report(b":", rows_alike(&rows, &corners, n, sheet, quad, first)),
+        Listed::Refused(number) => refused(rt, number),
+        Listed::Done(n) => report(rt, ":", rows_alike(&rows, &corners, n, sheet, quad, first)),
     }
 }
 
-fn say_list(misprinted: u8, n: usize, first: u8) {
+fn say_list(rt: &impl Print, misprinted: u8, n: usize, first: u8) -> io::Result<()> {
     if misprinted == 0 {
-        say(b"  list of ", n as u64);
+        say(rt, "  list of ", n as u64)?;
     } else {
-        say(b"  misprinted, list of ", n as u64);
+        say(rt, "  misprinted, list of ", n as u64)?;
     }
-    say(b" from start ", first as u64);
+    say(rt, " from start ", first as u64)
 }
 
-fn list_of(plane: &[u8], table: &[u64], sheet: Sheet, quad: Quad, count: usize, first: u8) {
+fn list_of(
+    rt: &impl Print,
+    plane: &[u8],
+    table: &[u64],
+    sheet: Sheet,
+    quad: Quad,
+    count: usize,
+    first: u8,
+) -> io::Result<()> {
     let mut quads = [0.0f32; 8200];
     let n = least(count, 1025);
     put_starts(&mut quads, quad, first);
-    say_list(sheet.misprinted, n, first);
-    listed(plane, table, sheet, quad, first, &quads[0..8 * n]);
+    say_list(rt, sheet.misprinted, n, first)?;
+    listed(rt, plane, table, sheet, quad, first, &quads[0..8 * n])
 }
 
 // The lengths of the lists, and the start that each begins with: no quad, each start in a list of its own, lists in which each row is
@@ -104,33 +120,41 @@ const COUNTS: [usize; 10] = [0, 1, 1, 1, 1, 2, 3, 1023, 1024, 1025];
 
 const STARTS: [u8; 10] = [0, 0, 1, 2, 3, 0, 1, 2, 3, 0];
 
-fn ten_lists(plane: &[u8], table: &[u64], sheet: Sheet, quad: Quad) {
+fn ten_lists(
+    rt: &impl Print,
+    plane: &[u8],
+    table: &[u64],
+    sheet: Sheet,
+    quad: Quad,
+) -> io::Result<()> {
     let mut i = 0;
     while i < 10 {
-        list_of(plane, table, sheet, quad, COUNTS[i], STARTS[i]);
+        list_of(rt, plane, table, sheet, quad, COUNTS[i], STARTS[i])?;
         i += 1;
     }
+    Ok(())
 }
 
-fn painted_lists(plane: &mut [u8], table: &[u64], sheet: Sheet) {
+fn painted_lists(rt: &impl Print, plane: &mut [u8], table: &[u64], sheet: Sheet) -> io::Result<()> {
     match paint(plane, sheet) {
-        Painted::Refused(number) => refused(number),
-        Painted::Tag(quad) => ten_lists(plane, table, sheet, quad),
+        Painted::Refused(number) => refused(rt, number),
+        Painted::Tag(quad) => ten_lists(rt, plane, table, sheet, quad),
     }
 }
 
-fn sheet_lists(plane: &mut [u8], table: &[u64], sheet: Sheet) {
+fn sheet_lists(rt: &impl Print, plane: &mut [u8], table: &[u64], sheet: Sheet) -> io::Result<()> {
     let frame = sheet.frame;
     let n = product(frame.width, frame.height, plane.len());
-    painted_lists(&mut plane[0..n], table, sheet);
+    painted_lists(rt, &mut plane[0..n], table, sheet)
 }
 
 // Lists of one tag of a table, clean, and with the last of its misprints if it has any.
-pub fn all(plane: &mut [u8], table: &[u64], number: u8) {
+pub fn all(rt: &impl Print, plane: &mut [u8], table: &[u64], number: u8) -> io::Result<()> {
     let misprints = kinds::misprints_of(number);
-    sheet_lists(plane, table, sheet_of(number, 7, 2, 1, kinds::clean()));
+    sheet_lists(rt, plane, table, sheet_of(number, 7, 2, 1, kinds::clean()))?;
     if 0 < misprints {
         let wrong = kinds::misprint(misprints - 1);
-        sheet_lists(plane, table, sheet_of(number, 7, 2, 1, wrong));
+        sheet_lists(rt, plane, table, sheet_of(number, 7, 2, 1, wrong))?;
     }
+    Ok(())
 }

@@ -51,7 +51,7 @@ fn compare_rows(numbers: &[u8], total: usize, rows: &[u64], digest: u64) -> Comp
 }
 
 // What a frame says of a call: the sides, the threshold, and the plane's rule and where it stands.
-#[derive(Drop)]
+#[derive(Clone, Copy)]
 struct Call {
     shape: Shape,
     threshold: f32,
