@@ -2,6 +2,8 @@
 // weight, added up in the order of the weights. The sums of samples side by side are made in blocks of 16, since 16 sums stay in
 // registers while all weights are added, and are worked on in vector instructions. Near an edge, where taps are repeated, sums
 // are made one at a time across, and a whole row at a time down.
+#![tactic(auto)]
+
 ghost use Rattle.std.specs.Prelude.{◌≡◌, true, ◌+◌, ◌-◌, ◌*◌, ◌<◌, ◌≤◌, min, length, get_or};
 ghost use Rattle.std.specs.Float.{nan};
 ghost use Rattle.lists.specs.Tab.{tabulate};

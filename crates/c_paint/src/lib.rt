@@ -1,6 +1,8 @@
 // The painting entries as C calls them: each answers the refusal's number, 0 where accepted. The plane and a sheet's output are lent on to
 // the entry; a lone tag's quad is written only where accepted. The form with a lent table and the form by family number share what comes
 // after the entry's answer. The crate muosleap_c exports them, and makes the structs of C's numbers.
+#![tactic(auto)]
+
 ghost use Rattle.std.specs.Prelude.{◌≡◌};
 ghost use Rattle.refusals.specs.Outcome.{number};
 ghost use Rattle.muosleap_paint.specs.PaintTag.{paint_tag, paint_tag_in, paper_painted};

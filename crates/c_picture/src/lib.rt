@@ -1,5 +1,7 @@
 // The entries from picture to clusters as C calls them: each answers the refusal's number, 0 where accepted. Planes, worklist and rows are lent on
 // to the entry; a threshold, a total and a centre are written only where accepted. The crate muosleap_c exports them, and makes the shape of C's numbers.
+#![tactic(auto)]
+
 ghost use Rattle.std.specs.Prelude.{◌≡◌, length};
 ghost use Rattle.refusals.specs.Outcome.{number};
 ghost use Rattle.muosleap_picture.specs.ImageUtil.{gaussian_blur, hessian_response, response_threshold, paper_filled};

@@ -1,5 +1,7 @@
 // The entries on reports as C calls them: each answers the refusal's number, 0 where accepted. The outputs are lent on to the entry; how
 // much of them was written goes through a reference, and only where accepted. The crate muosleap_c exports them.
+#![tactic(auto)]
+
 ghost use Rattle.muosleap_report.specs.Reports.{paper_written, write_report, paper_reread, read_report};
 ghost use Rattle.outputs.specs.Outputs.{Gives, whole, held};
 ghost use Rattle.c_report.specs.Reports.{WritesReport, ReadsReport};

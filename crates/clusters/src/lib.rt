@@ -2,6 +2,8 @@
 // The rows are scanned for samples below the threshold. From each one that is found a walk claims its cluster: samples that
 // it reaches are set to the largest f32 and wait on the worklist until their own neighbours are claimed. So each sample
 // waits once, and a cluster that was found is not found again.
+#![tactic(auto)]
+
 ghost use Rattle.std.specs.Prelude.{◌≡◌, true, false, cond, ◌+◌, ◌-◌, ◌*◌, ◌%◌, ◌<◌, ◌≤◌, length};
 ghost use Rattle.std.specs.Float.Ieee.{lt};
 ghost use Rattle.std.specs.Float.Ieee.Scale.{finite};

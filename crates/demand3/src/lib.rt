@@ -1,6 +1,8 @@
 // Demand 3 said of the code: functions that paint a tag and then read it, alone and in a list of its own, and that read the four starts of
 // a quad; and 02's tickets 3 and 4: one that paints a sheet and reads a quad of it, and one that paints a sheet and reads the list of all
 // its quads. They are no public entries. specs/Said.antt and specs/Sheet.antt say what is proved of them.
+#![tactic(auto)]
+
 ghost use Rattle.std.specs.Prelude.{◌<◌};
 ghost use Rattle.grid.specs.Quads.{tag_count};
 ghost use Rattle.listing.specs.Listing.{listing_of};

@@ -1,4 +1,6 @@
 // A whole sheet: a grid of a table's codes painted into one 8-bit plane.
+#![tactic(auto)]
+
 ghost use Rattle.std.specs.Prelude.{◌≡◌, false, ◌≤◌, ◌<◌, length};
 ghost use Rattle.lists.specs.Front.{in_front};
 ghost use Rattle.tables.specs.Table.{bad_edge, bad_border};

@@ -1,4 +1,6 @@
 // Levels to bits: the levels of a tag's modules, from the first on, give a word.
+#![tactic(auto)]
+
 ghost use Rattle.std.specs.Prelude.{◌≡◌, ◌+◌, ◌/◌, ◌<◌, ◌≤◌, min, max, length};
 ghost use Rattle.levels.specs.Levels.{least_of, greatest_of, above, word_of, distance, unsure, unsure_of, code_of};
 ghost use Rattle.levels.specs.Bits.{paper_bits};

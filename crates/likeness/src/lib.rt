@@ -1,4 +1,6 @@
 // The likeness check of a table: whether its codes, in all their turns, are far enough apart to be read one way only.
+#![tactic(auto)]
+
 ghost use Rattle.std.specs.Prelude.{◌≡◌, false, ◌*◌, ◌^◌, ◌<◌, ◌≤◌, length, get_or};
 ghost use Rattle.tables.specs.Table.{bad_codes};
 ghost use Rattle.lists.specs.Each.{each};

@@ -1,5 +1,7 @@
 // Ticket 7 of 02 said of the code: a function that reads a list and writes its report. It is no public entry. specs/Reported.antt says
 // what is proved of it.
+#![tactic(auto)]
+
 ghost use Rattle.muosleap_report.specs.Reports.{paper_written};
 ghost use Rattle.listed_report.specs.Reported.{ListReported};
 

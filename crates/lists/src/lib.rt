@@ -2,3 +2,5 @@
 // front of an output.
 // The definitions are in specs/, and in proofs/ the laws of the loops that test or write a slice, once for all crates.
 // There is no code here.
+#![tactic(auto)]
+

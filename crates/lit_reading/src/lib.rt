@@ -1,5 +1,7 @@
 // Ticket 8 of 02 said of the code: functions that paint a tag, or a sheet, work out whether its samples are lit well enough in a picture that
 // they are lent, and read them there. They are no public entries. specs/Said.antt says what is proved of them.
+#![tactic(auto)]
+
 ghost use Rattle.std.specs.Prelude.{◌≡◌, ◌<◌, length};
 ghost use Rattle.lists.specs.Each.{each};
 ghost use Rattle.levels.specs.Levels.{middle_of};

@@ -2,5 +2,7 @@
 // `muosleap_picture`, those on reports in `muosleap_report`. No entry demands anything of its caller: each tests its own refusals, in the order of document 01, and then
 // calls the core below.
 // Quad to tag: codes, levels, one quad; lists of quads.
+#![tactic(auto)]
+
 pub mod detector;
 pub mod quads;

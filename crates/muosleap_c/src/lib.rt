@@ -3,6 +3,8 @@
 // Here are the exported names and the structs of C's numbers; the crates c_tags, c_paint, c_picture and c_report have the rest.
 // Codes: words, codes and levels. Quads: quads, lists of quads. Painting: the painter. Picture: blur, response, threshold, clusters,
 // centres. Reports: list readings as bytes, and back. Structs: those that readings and paintings take, not exported.
+#![tactic(auto)]
+
 pub mod codes;
 pub mod painting;
 pub mod picture;

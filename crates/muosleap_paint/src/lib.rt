@@ -1,5 +1,7 @@
 // Every public entry that paints tags, and nothing else; those that read tags are in `muosleap`. No entry demands anything of its
 // caller: each tests its own refusals, in the order of the papers, and then calls the core below.
 // Tag to picture: one tag; a whole sheet.
+#![tactic(auto)]
+
 pub mod painting;
 pub mod sheet;

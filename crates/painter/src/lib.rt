@@ -1,4 +1,6 @@
 // Tags painted into an 8-bit plane.
+#![tactic(auto)]
+
 ghost use Rattle.std.specs.Prelude.{◌≡◌, false, ◌+◌, ◌*◌, ◌<◌, ◌≤◌, length, get_or};
 ghost use Rattle.refusals.specs.Pixels.{bad_frame};
 ghost use Rattle.tables.specs.Table.{bad_edge, bad_border};

@@ -1,4 +1,6 @@
 // Corners: "a corner is a struct of two floats", and a quad is four of them. y grows downward.
+#![tactic(auto)]
+
 ghost use Rattle.std.specs.Prelude.{◌≡◌, [], ◌∷◌, ◌+◌, ◌*◌, ◌≤◌, length};
 ghost use Rattle.std.proofs.lemmas.List.Edits.{sets};
 ghost use Rattle.points.specs.Turned.{turned_left, reversed, answer_corners};

@@ -1,4 +1,6 @@
 // `readbits` on more than 4,096 bytes: the limit cuts the line `231BA` after its fourth byte, and it is judged as cut.
+#![tactic(auto)]
+
 use std::io;
 
 fn main(rt: HostRuntime) -> io::Result<()> {

@@ -1,4 +1,6 @@
 // What `readbits` prints for the bytes that it has read.
+#![tactic(auto)]
+
 ghost use Rattle.std.specs.Prelude.{◌≡◌, cond, [], ◌∷◌, ◌++◌, ◌+◌, ◌*◌, ◌≤◌, ◌<◌, ◌≢◌, ℕ, length, slice_index};
 ghost use Rattle.readbits_lines.specs.Word.{is_digit, digit_number, is_word, number_of};
 ghost use Rattle.text.specs.Text.{line_feed};

@@ -1,5 +1,7 @@
 // `readbits` on lines that are no words, on every code in every turn, and on an input that ends at the limit of 4,096 bytes
 // with a whole word.
+#![tactic(auto)]
+
 use std::io;
 
 fn main(rt: HostRuntime) -> io::Result<()> {

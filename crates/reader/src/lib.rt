@@ -1,4 +1,6 @@
 // Quad to tag: the samples of a quad on an 8-bit plane, their levels, the word that they make, and the code that it shows.
+#![tactic(auto)]
+
 ghost use Rattle.std.specs.Prelude.{◌≡◌, false, ◌+◌, ◌*◌, ◌≤◌, ◌<◌, length};
 ghost use Rattle.refusals.specs.Outcome.{accepted};
 ghost use Rattle.refusals.specs.Pixels.{bad_frame};

@@ -1,5 +1,7 @@
 // What several public entries share: the outcome of a call (specs/Outcome.antt), the structs that describe a plane,
 // refusal 1, and where a pixel of an 8-bit plane stands.
+#![tactic(auto)]
+
 ghost use Rattle.std.specs.Prelude.{◌≡◌, ◌≤◌};
 ghost use Rattle.refusals.specs.Plane.{bad_sides, bad_plane};
 ghost use Rattle.refusals.specs.Pixels.{packed_frame, bad_pitch, bad_frame, place_of, SmallFrame};

@@ -1,4 +1,6 @@
 // What the writer and the reader of reports share: the ids met so far, the map of a row, how many bytes it has, and which refusals stand in rows.
+#![tactic(auto)]
+
 ghost use Rattle.std.specs.Prelude.{◌≡◌, true, length};
 ghost use Rattle.reader.specs.Answer.{paper_reading};
 ghost use Rattle.report.specs.Reading.{row_refusal, good_row};

@@ -1,4 +1,6 @@
 // Rows and corner numbers to the bytes of a report: the first pass tests them and adds up the bytes, the second one writes.
+#![tactic(auto)]
+
 ghost use Rattle.std.specs.Prelude.{◌≡◌, true, false, cond, ◌+◌, ◌*◌, ◌≤◌, length};
 ghost use mathlib.Core.List.{◌++◌, flat_map};
 ghost use Rattle.lists.specs.Front.{in_front};

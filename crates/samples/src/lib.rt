@@ -1,4 +1,6 @@
 // Samples of a slice: the tests of all of them that refusals 2 and 3 make, and a row of zeros.
+#![tactic(auto)]
+
 ghost use Rattle.std.specs.Prelude.{◌≡◌, length};
 ghost use Rattle.lists.specs.Tab.{all, tabulate};
 ghost use Rattle.samples.specs.Samples.{between, zero_f, in_unit, tame};

@@ -1,4 +1,6 @@
 // The search for the code that a word shows: over four turns of the word and all codes of a table.
+#![tactic(auto)]
+
 ghost use Rattle.std.specs.Prelude.{◌≡◌, ◌<◌, ◌≤◌, length, nat_le};
 ghost use Rattle.lists.specs.Tab.{all};
 ghost use Rattle.word.specs.Word.{differing};

@@ -2,6 +2,8 @@
 // misprints, the corners of a plane, and lists of quads, in which those that share their id are refused; then whole sheets of each table, every
 // tag of them alone and in lists, and grids that the painter refuses. Each line counts what is as demand 3 has it, and as tickets 3 and
 // 4 of 02 have sheets and lists. Tables are lent to the readers, and families are read by their numbers too.
+#![tactic(auto)]
+
 mod boards;
 mod codes;
 mod grids;

@@ -1,4 +1,6 @@
 // A table: a list of codes, and what a reader has to know of it. Refusal 6 says which tables are taken.
+#![tactic(auto)]
+
 ghost use Rattle.std.specs.Prelude.{◌≡◌, false, ◌^◌, ◌<◌};
 ghost use Rattle.lists.specs.Tab.{all};
 ghost use Rattle.tables.specs.Table.{outside, bad_edge, bad_border, below, in_square, bad_codes, bad_table};

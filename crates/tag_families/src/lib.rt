@@ -1,5 +1,7 @@
 // The families of the original: their code lists, and the small table of edge, border and match threshold.
 // Family numbers: 0 T16H5, 1 T25H7, 2 T25H9, 3 T36H11, 4 T36H11B1 (the codes of T36H11 in a border of 1).
+#![tactic(auto)]
+
 pub mod codes;
 
 ghost use Rattle.std.specs.Prelude.{◌≡◌, ◌*◌, ◌^◌, ◌<◌, length, get_or};

@@ -1,4 +1,6 @@
 // Bytes, of a text or of a report, put into a buffer piece by piece: each function gives the place after what it has put.
+#![tactic(auto)]
+
 ghost use Rattle.std.specs.Prelude.{[], ◌∷◌, ◌+◌, ◌≤◌, ◌<◌, length};
 ghost use Rattle.text.specs.Text.{space, decimal};
 ghost use Rattle.text.specs.Put.{Put};

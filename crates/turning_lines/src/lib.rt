@@ -1,4 +1,6 @@
 // What `turning` prints: the tables of `word`, worked out anew from the formula.
+#![tactic(auto)]
+
 ghost use Rattle.std.specs.Prelude.{◌≡◌, ◌+◌, ◌*◌, ◌≤◌, ◌<◌, length};
 ghost use Rattle.word.specs.Word.{source};
 ghost use Rattle.text.specs.Put.{Put};

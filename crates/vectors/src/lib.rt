@@ -1,5 +1,7 @@
 // What the programs that replay vectors share: files of frames, numbers in bytes, the count of what is alike, the generator of
 // numbers and the digest. tools/oracle/README.md has the formats.
+#![tactic(auto)]
+
 pub mod answers;
 pub mod floats;
 

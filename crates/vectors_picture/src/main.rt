@@ -1,5 +1,7 @@
 // Replays what the original's blur, response, threshold, clusters and centres answered, and the limits of document 01, against the
 // public entries on pictures. tools/oracle/README.md says how the files were made.
+#![tactic(auto)]
+
 mod cluster_frames;
 mod planes;
 

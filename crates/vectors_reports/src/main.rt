@@ -1,6 +1,8 @@
 // Replays readings that are written as reports and reports that are read again against the public entries on reports: what each call
 // answers, and every number of its outputs afterwards. What one entry accepts the other takes back to where it came from.
 // tools/oracle/README.md says how the files were made.
+#![tactic(auto)]
+
 mod calls;
 mod damage;
 mod given;

@@ -2,6 +2,8 @@
 // tags and sheets, the limits of documents 01 and 02, searches with their count of codes compared, and pictures of painted tags under
 // uneven light, against the public entries on tags and, for the latter, `lit_reading`; what has a picture again with filler between its lines. tools/oracle/README.md says
 // how the files were made.
+#![tactic(auto)]
+
 mod bit_codes;
 mod light;
 mod padded;

@@ -1,4 +1,6 @@
 // A word as a square of bits: its quarter turn, and the number of bits in which two words differ.
+#![tactic(auto)]
+
 mod sources;
 
 ghost use Rattle.std.specs.Prelude.{◌≡◌, true, false, ◌+◌, ◌*◌, ◌^◌, ◌<◌, ◌≤◌, ltb, length};

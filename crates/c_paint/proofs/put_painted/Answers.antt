@@ -1,0 +1,12 @@
+-- The quad of the answer fills the eight numbers lent. Assumes nothing.
+use mathlib.Core.Path.{◌≡◌, refl, ◌∙◌}
+use lib.ListN.{length}
+use Rattle.points.proofs.Numbers.{filled}
+use borrow.Author.Rules.{rules}
+use Rattle.c_paint.proofs.put_painted.Goals as goal
+
+pub returns-in-Tag : goal.returns-in-Tag
+returns-in-Tag c =
+    let eight : length c.args.quad.now ≡ 8 = search rules in
+    rw c.in-Tag.is
+    record { answered = refl; written = c.put_quad.ensures ∙ filled _ c.args.quad.now eight }

@@ -1,0 +1,14 @@
+-- Each coordinate is one that refusal 8 lets through. Assumes nothing.
+use native.Mathlib.Omega.{arith}
+use Rattle.places.proofs.Small.{x_good, y_good}
+use Rattle.report.specs.Report.{point_in}
+use Rattle.report_reader.proofs.point_at.Goals as goal
+
+pub float_at-x-requires : goal.float_at-x-requires
+float_at-x-requires c = (omega (arith, c.requires.0), x_good (point_in c.args.at c.args.bytes.now) c.requires.1)
+
+pub float_at-y-requires : goal.float_at-y-requires
+float_at-y-requires c = (omega (arith, c.requires.0), y_good (point_in c.args.at c.args.bytes.now) c.requires.1)
+
+pub returns : goal.returns
+returns c = λ j. record { x = c.float_at-x.ensures j; y = c.float_at-y.ensures j }
