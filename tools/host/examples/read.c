@@ -2,9 +2,10 @@
    saddle points of a small picture, with the C interface of Muosleap.
 
    Every buffer is initialized before it is lent, outputs too, as the header asks. From the root of the repository, after
-   `rt staticlib muosleap_c`:
+   `(cd crates/muosleap_c && rt lib)`:
 
-       cc -I include tools/host/examples/read.c -L target/staticlib -lmuosleap_c -o target/read && target/read
+       mkdir -p target
+       cc -I include tools/host/examples/read.c -L crates/muosleap_c/out -lmuosleap_c -o target/read && target/read
 */
 #include <stdint.h>
 #include <stdio.h>
