@@ -53,7 +53,8 @@ try_decode_quad-reading-requires c = (c.requires.0, c.requires.1)
 read_as : (d : After-try_decode_quad-reading) → paper_reading d.try_decode_quad-reading.result ≡ reads (goal.at.After-try_decode_quad-reading d).Start d.loop-q.q
 read_as d =
     let a = d.args in
-    d.try_decode_quad-reading.ensures ∙ ap (reading a.plane.now a.frame a.family a.codes.now) d.quad_at-quad.ensures
+    let same : d.quad_at-quad.result ≡ quad_at a.quads.now d.loop-q.q = d.quad_at-quad.ensures in
+    d.try_decode_quad-reading.ensures ∙ ap (reading a.plane.now a.frame a.family a.codes.now) same
 
 pub count_id-requires : goal.count_id-requires
 count_id-requires c =
