@@ -3,4 +3,3 @@
 // The definitions are in specs/, and in proofs/ the laws of the loops that test or write a slice, once for all crates.
 // There is no code here.
 #![tactic(auto)]
-

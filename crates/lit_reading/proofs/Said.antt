@@ -15,7 +15,6 @@ use Rattle.points.specs.Numbers.{quad_at}
 use Rattle.tables.specs.declared.Family.{Family}
 use Rattle.painter.specs.Corners.{print_quad}
 use Rattle.painter.specs.Printable.{Printable}
-use Rattle.painter.specs.Tag.{painted}
 use Rattle.painter.specs.declared.Print.{Print}
 use Rattle.painter.proofs.Painted.{length-painted}
 use Rattle.painter.proofs.Printable.{Good-print}

@@ -6,7 +6,6 @@ use Prim.Native.Nat.{ℕ, zero, suc, ◌+◌, ◌-◌, ◌<◌}
 use native.Mathlib.Omega.{arith}
 use lib.Dec.{eqb}
 use Rattle.lists.proofs.Bools.{same_test}
-use Rattle.word.specs.Word.{turn}
 use Rattle.painter.specs.Picture.{between}
 use Rattle.painter.specs.Tag.{side_of, cell_at, quarter, turned_cell, module_bit, is_light, shade_of}
 use Rattle.painter.specs.declared.Cell.{Cell}

@@ -14,7 +14,6 @@ use Rattle.word.specs.Word.{bit}
 use Rattle.places.specs.Corners.{bad_corners, corners_outside}
 use Rattle.places.specs.Place.{axes_of}
 use Rattle.painter.specs.Corners.{print_quad}
-use Rattle.painter.specs.Tag.{painted}
 use Rattle.painter.specs.declared.Print.{Print}
 use Rattle.reader.specs.Reading.{samples, column, row, levels_of}
 use Rattle.paper.specs.Demand3.{Painted}

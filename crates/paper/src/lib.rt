@@ -3,4 +3,3 @@
 // compared, of reports and of lit pictures in specs/Padded.antt, HowFarOff.antt, Sheet.antt, Repeated.antt, PerfectMatch.antt, Reports.antt and Light.antt, and how far
 // corners may be off in OffCorners.antt; the proofs have the same names. There is no code here.
 #![tactic(auto)]
-

@@ -1,6 +1,6 @@
 -- The rows of a reading, looked at one after the other: each stands and has an id that was not met before, if and only if all stand and no id is there
 -- twice. Assumes nothing.
-use mathlib.Core.Path.{◌≡◌, refl, sym, ap, ap₂, subst, ◌∙◌}
+use mathlib.Core.Path.{◌≡◌, refl, sym, ap, ap₂, ◌∙◌}
 use mathlib.Core.Logic.{◌⊎◌, inl, inr}
 use mathlib.Core.Bool.{Bool, true, false, not, ◌&&◌, ◌||◌, cond, and-true, and-false}
 use mathlib.Core.List.{List, [], ◌∷◌, ◌++◌, map, flat_map}

@@ -8,7 +8,7 @@ use borrow.Author.Tests.{eqb-true, eq-eqb}
 use lib.Dec.{eqb}
 use lib.ListN.{length, take, drop, take-append-drop, length-drop}
 use lib.Seq.{take_at, take_all}
-use Rattle.lists.proofs.Bools.{test, same_test, and_left, and_right}
+use Rattle.lists.proofs.Bools.{and_left, and_right}
 use Rattle.report.specs.Rows.{same}
 use Rattle.report.specs.Steps.{begins_with}
 

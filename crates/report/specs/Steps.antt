@@ -1,5 +1,5 @@
 -- What only the loops of the report's writer and reader need: a row that is looked at, the ids met before it, and how far the rows have come. Assumes nothing.
-use Rattle.std.specs.Prelude.{ℕ, zero, suc, ◌+◌, Bool, true, false, not, ◌&&◌, cond, List, [], ◌∷◌, map, eqb, Float, length, get_or, take, drop, set}
+use Rattle.std.specs.Prelude.{ℕ, zero, suc, ◌+◌, Bool, false, not, ◌&&◌, cond, List, [], ◌∷◌, eqb, Float, length, get_or, take, drop, set}
 use Rattle.refusals.specs.Outcome.{Outcome, accepted, refused}
 use Rattle.points.specs.Numbers.{quad_size}
 use Rattle.reader.specs.Reading.{Tag}

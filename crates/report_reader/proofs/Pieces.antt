@@ -1,14 +1,13 @@
 -- Pieces of some bytes: what stands at a place, one piece after another. Assumes nothing.
 use mathlib.Core.Path.{◌≡◌, refl, sym, ap, ap₂, subst, ◌∙◌}
-use mathlib.Core.Bool.{Bool, true, false, not}
+use mathlib.Core.Bool.{false}
 use mathlib.Core.List.{List, [], ◌∷◌, ◌++◌, flat_map}
 use Prim.Native.Nat.{ℕ, zero, suc, ◌+◌, ◌*◌, ◌/◌, ◌%◌, ◌≤◌, ◌<◌}
-use native.Mathlib.Numerals.{add-one}
 use native.Mathlib.Omega.{arith}
-use lib.Ieee.{Float, binary32, of_bits, to_bits}
+use lib.Ieee.{binary32}
 use lib.Ieee.Bits.{to_bits-of_bits}
 use lib.ListN.{length, get_or, take, drop, length-append, length-drop}
-use lib.Seq.{take-add, take-suc, drop-drop, length-take-le, get_or-take, get_or-drop, drop-cons}
+use lib.Seq.{take-add, drop-drop, length-take-le, get_or-drop, drop-cons}
 use Rattle.points.specs.Numbers.{numbers_of}
 use Rattle.points.proofs.Any.{no_corner}
 use Rattle.places.specs.Rounding.{bad_coordinate}

@@ -2,25 +2,23 @@
 use mathlib.Core.Path.{◌≡◌, refl, sym, ap, ap₂, subst, ◌∙◌}
 use mathlib.Core.Bool.{Bool, true, false, ◌&&◌, cond, and-true}
 use mathlib.Core.List.{List, [], ◌∷◌, ◌++◌, flat_map}
-use Prim.Native.Nat.{ℕ, zero, suc, ◌+◌, ◌*◌, ◌/◌, ◌%◌, ◌≤◌, ◌<◌}
+use Prim.Native.Nat.{ℕ, zero, suc, ◌+◌, ◌*◌, ◌≤◌, ◌<◌}
 use native.Mathlib.Omega.{arith}
 use borrow.Author.Tests.{eq-eqb, ne_eqb, ltb-true, leb-true, lt-ltb, le-leb}
-use lib.Dec.{eqb, ltb, leb}
+use lib.Dec.{ltb, leb}
 use lib.ListN.{length, get_or, take, drop, length-append}
-use lib.Seq.{take-length}
-use Rattle.lists.proofs.Bools.{test, and_left, and_right}
+use Rattle.lists.proofs.Bools.{and_left, and_right}
 use Rattle.refusals.specs.Outcome.{Outcome, accepted, refused}
 use Rattle.points.specs.Numbers.{numbers_of}
-use Rattle.places.specs.Corners.{bad_corners}
 use Rattle.reader.specs.Reading.{Tag}
 use Rattle.report.specs.Reading.{row_refusal, good_row}
-use Rattle.report.specs.Bytes.{low_first, unless_zero, one_unless_zero, map_of, float_bytes, row_bytes}
+use Rattle.report.specs.Bytes.{low_first, unless_zero, one_unless_zero, float_bytes, row_bytes}
 use Rattle.report.specs.Rows.{same}
-use Rattle.report.specs.Report.{number_at, field_in, quad_in, tag_in, has_turn, has_differing, row_in}
+use Rattle.report.specs.Report.{tag_in, has_turn, has_differing, row_in}
 use Rattle.report.specs.Steps.{begins_with, bytes_stand}
 use Rattle.report.proofs.Same.{same_refl, begins_means}
 use Rattle.report.proofs.Good.{GoodTag, good_tag, tag_good, length-unless_zero, length_tag, one_at_most, row_some}
-use Rattle.report_reader.specs.Steps.{front_tag, tag_stands}
+use Rattle.report_reader.specs.Steps.{tag_stands}
 use Rattle.report_reader.proofs.Pieces.{Stood, Stood-more, Stood-byte, Stood-number, Stood-field, Stood-quad}
 
 -- the bits of a tag's map

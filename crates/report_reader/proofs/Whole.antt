@@ -1,13 +1,12 @@
 -- A report, row by row: its bytes are those of a reading where each row stands, no id is there twice, and the last row ends with the last byte. Assumes nothing.
-use mathlib.Core.Path.{◌≡◌, refl, sym, ap, ap₂, subst, ◌∙◌}
-use mathlib.Core.Logic.{◌⊎◌, inl, inr}
-use mathlib.Core.Bool.{Bool, true, false, not, ◌&&◌, cond, and-true, and-false}
+use mathlib.Core.Path.{◌≡◌, refl, sym, ap, ap₂, ◌∙◌}
+use mathlib.Core.Bool.{Bool, true, false, ◌&&◌, cond, and-true, and-false}
 use mathlib.Core.List.{List, [], ◌∷◌, ◌++◌, flat_map}
 use Prim.Native.Nat.{ℕ, zero, suc, ◌+◌, ◌-◌, ◌≤◌, ◌<◌}
 use native.Mathlib.Omega.{arith}
 use borrow.Author.Tests.{eq-eqb, ne_eqb, eqb-true}
 use lib.Dec.{eqb}
-use lib.ListN.{length, get_or, take, drop, replicate, length-append, length-drop}
+use lib.ListN.{length, get_or, drop, replicate, length-append, length-drop}
 use lib.Seq.{drop-drop}
 use Rattle.lists.specs.Tab.{all}
 use Rattle.lists.proofs.Bools.{same_test, and_parts, and_left}
@@ -16,7 +15,7 @@ use Rattle.reader.specs.Reading.{Tag}
 use Rattle.report.specs.Reading.{good_row, id_of, distinct, is_reading}
 use Rattle.report.specs.Bytes.{low_first, row_bytes, report_of}
 use Rattle.report.specs.Rows.{same}
-use Rattle.report.specs.Report.{number_at, row_in, rows_in, count_in, report_says, is_report}
+use Rattle.report.specs.Report.{row_in, rows_in, count_in, report_says, is_report}
 use Rattle.report.specs.Steps.{Candidate, begins_with, bytes_stand, byte_candidates, is_met, meet, placed}
 use Rattle.report.proofs.Same.{same_refl, same-append, begins_means}
 use Rattle.report.proofs.Report.{length-rows_in, report_means}

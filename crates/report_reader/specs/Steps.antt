@@ -1,7 +1,6 @@
 -- What only the reader's own functions need: the row of a tag, where rows end, and what is left in the outputs. Assumes nothing.
-use Rattle.std.specs.Prelude.{ℕ, ◌+◌, ◌<◌, ◌≤◌, ◌≡◌, Bool, true, false, ◌&&◌, eqb, Float, length, get_or, drop}
+use Rattle.std.specs.Prelude.{ℕ, ◌+◌, ◌≡◌, Bool, false, ◌&&◌, eqb, Float, get_or}
 use mathlib.Core.List.{List, flat_map}
-use Rattle.lists.specs.Tab.{all}
 use Rattle.lists.specs.Front.{in_front}
 use Rattle.refusals.specs.Outcome.{Outcome, accepted, refused}
 use Rattle.reader.specs.Reading.{Tag}

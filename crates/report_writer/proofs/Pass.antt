@@ -1,16 +1,14 @@
 -- What the two passes over the rows keep. Assumes nothing.
 use mathlib.Core.Path.{◌≡◌, refl, sym, ap, ap₂, ◌∙◌}
-use mathlib.Core.Bool.{Bool, true, false, not, ◌&&◌, cond}
+use mathlib.Core.Bool.{Bool, true, false, ◌&&◌, cond}
 use mathlib.Core.List.{List, [], ◌∷◌, ◌++◌, flat_map, append-nil, append_assoc}
 use Prim.Native.Nat.{ℕ, suc, ◌+◌, ◌-◌, ◌*◌, ◌≤◌, ◌<◌}
 use native.Mathlib.Nat.{zero-add}
 use native.Mathlib.Omega.{arith}
 use lib.Ieee.{Float}
 use lib.ListN.{length, take, drop, replicate, length-append, length-drop}
-use lib.Seq.{take_all}
 use Rattle.lists.specs.Tab.{all}
 use Rattle.lists.specs.Front.{in_front}
-use Rattle.lists.proofs.Bools.{and_not_right}
 use Rattle.refusals.specs.Outcome.{Outcome, accepted, refused}
 use Rattle.points.specs.Numbers.{quad_size}
 use Rattle.reader.specs.Reading.{Tag}

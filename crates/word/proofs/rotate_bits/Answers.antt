@@ -2,13 +2,12 @@
 use mathlib.Core.Path.{◌≡◌, refl, sym, ap, ◌∙◌}
 use mathlib.Core.List.{List}
 use Prim.Native.Nat.{ℕ}
-use native.Mathlib.Omega.{arith}
 use lib.Dec.{lit≤}
 use Rattle.lists.specs.Tab.{tabulate}
 use Rattle.word.specs.Word.{turn}
 use Rattle.word.specs.Sources.{sources}
 use Rattle.word.specs.Gathered.{gathered}
-use Rattle.word.proofs.Tables.{no_table, table_turns, table_fits}
+use Rattle.word.proofs.Tables.{table_turns, table_fits}
 use Rattle.word.proofs.rotate_bits.Goals as goal
 
 pub by_table-requires : goal.by_table-requires
