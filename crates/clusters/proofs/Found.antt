@@ -15,7 +15,7 @@ use Rattle.lists.specs.Each.{any}
 use Rattle.lists.specs.Tab.{tabulate}
 use Rattle.lists.proofs.Bools.{and_parts, and_not_left, and_not_right, or_cases, same_test, test, overlay}
 use Rattle.lists.proofs.Each.{any_found, any_from}
-use Rattle.lists.proofs.Tab.{length-tabulate, get_d_tabulate}
+use Rattle.lists.proofs.Tab.{length-tabulate, get_or-tabulate}
 use Rattle.clusters.specs.declared.Row.{Row}
 use Rattle.clusters.specs.Connected.{below, connected}
 use Rattle.clusters.specs.Clusters.{border, max_f32, sum_over, row_of, written, seed, clustered, first, rows_of, marked, Found, found_before}
@@ -50,18 +50,18 @@ module _ (t : Float) (w h : ℕ) (pos : 0 < w) (plane : List Float) (big : lt ma
   length-marked : (k : ℕ) → length (M k) ≡ N
   length-marked k = length-tabulate N (at k)
 
-  get_d_marked : (k i : ℕ) → i < N → get_or (M k) i nan ≡ at k i
-  get_d_marked k i b = get_d_tabulate N (at k) i nan b
+  get_or-marked : (k i : ℕ) → i < N → get_or (M k) i nan ≡ at k i
+  get_or-marked k i b = get_or-tabulate N (at k) i nan b
 
   stays_low : (k i : ℕ) → below t plane i ≡ true → CL k i ≡ false → below t (M k) i ≡ true
   stays_low k i l c =
-      ap (λ (v : Float). lt v t) (get_d_marked k i (below_inside t plane i l) ∙ ap (λ (b : Bool). cond b max_f32 (get_or plane i nan)) c) ∙ l
+      ap (λ (v : Float). lt v t) (get_or-marked k i (below_inside t plane i l) ∙ ap (λ (b : Bool). cond b max_f32 (get_or plane i nan)) c) ∙ l
 
   was_low : (k i : ℕ) → below t (M k) i ≡ true → (below t plane i ≡ true) × (CL k i ≡ false)
   was_low k i l =
       let b : i < N = subst (λ (n : ℕ). i < n) (length-marked k) (below_inside t (M k) i l) in
       let v : (x : Bool) → CL k i ≡ x → lt (cond x max_f32 (get_or plane i nan)) t ≡ true = λ x c.
-      ap (λ (v : Float). lt v t) (sym (get_d_marked k i b ∙ ap (λ (y : Bool). cond y max_f32 (get_or plane i nan)) c)) ∙ l in
+      ap (λ (v : Float). lt v t) (sym (get_or-marked k i b ∙ ap (λ (y : Bool). cond y max_f32 (get_or plane i nan)) c)) ∙ l in
       ⊎_elim (λ c. absurd (false≢true (sym big ∙ v true c))) (λ c. (v false c, c)) (test (CL k i))
 
   -- ---- rows
@@ -193,12 +193,12 @@ module _ (t : Float) (w h : ℕ) (pos : 0 < w) (plane : List Float) (big : lt ma
           (length-marked (suc k) ∙ sym (length-marked k) ∙ sym (length-tabulate (length (M k)) (λ i. cond (connected t w (M k) k i) max_f32 (get_or (M k) i nan))))
           (λ i b.
           let x : i < N = subst (λ (n : ℕ). i < n) (length-marked (suc k)) b in
-          get_d_marked (suc k) i x
+          get_or-marked (suc k) i x
           ∙ ap (λ (b : Bool). cond b max_f32 (get_or plane i nan)) (clustered_more k i ∙ ap (λ (d : Bool). CL k i || (d && connected t w plane k i)) is_seed)
           ∙ sym (overlay (CL k i) (connected t w plane k i) max_f32 max_f32 (get_or plane i nan) (λ e. refl))
-          ∙ ap (λ (v : Float). cond (connected t w plane k i) max_f32 v) (sym (get_d_marked k i x))
+          ∙ ap (λ (v : Float). cond (connected t w plane k i) max_f32 v) (sym (get_or-marked k i x))
           ∙ ap (λ (b : Bool). cond b max_f32 (get_or (M k) i nan)) (sym (same_connected k fresh i))
-          ∙ sym (get_d_tabulate (length (M k)) (λ i. cond (connected t w (M k) k i) max_f32 (get_or (M k) i nan)) i nan (subst (λ (n : ℕ). i < n) (sym (length-marked k)) x)))
+          ∙ sym (get_or-tabulate (length (M k)) (λ i. cond (connected t w (M k) k i) max_f32 (get_or (M k) i nan)) i nan (subst (λ (n : ℕ). i < n) (sym (length-marked k)) x)))
 
       new : F (suc k) ≡ record { plane = erased t w (M k) k; rows = put (F k).rows (F k).total (row_of t w (M k) k); total = (F k).total + 1 }
       new = found_path new_plane
@@ -209,7 +209,7 @@ module _ (t : Float) (w h : ℕ) (pos : 0 < w) (plane : List Float) (big : lt ma
 
     pub found_none : record { plane = plane; rows = rows; total = 0 } ≡ F 0
     unfolding written rows_of clustered any
-    found_none = found_path (ext_get_or nan plane (M 0) (sym (length-marked 0)) (λ i b. sym (get_d_marked 0 i b))) refl refl
+    found_none = found_path (ext_get_or nan plane (M 0) (sym (length-marked 0)) (λ i b. sym (get_or-marked 0 i b))) refl refl
 
     -- no sample from a on and before a + d is one to find
     pub found_skip : (f : Found) (a d : ℕ) → f ≡ F a → ((i : ℕ) → a ≤ i → i < a + d → (border w h i ≡ true) ⊎ (below t f.plane i ≡ false)) → f ≡ F (a + d)

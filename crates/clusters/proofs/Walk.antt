@@ -13,7 +13,7 @@ use lib.ListN.{length, get_or, take, set, length-set}
 use lib.Seq.{get_or-set_same, get_or-set_other, ext_get_or}
 use lib.Ieee.{Float, nan, lt}
 use Rattle.lists.proofs.Bools.{and_parts, and_not_left, and_not_right, same_test, test, same?}
-use Rattle.lists.proofs.Tab.{length-tabulate, get_d_tabulate}
+use Rattle.lists.proofs.Tab.{length-tabulate, get_or-tabulate}
 use Rattle.clusters.specs.Connected.{below, connected}
 use Rattle.clusters.specs.Clusters.{max_f32, row_of}
 use Rattle.clusters.specs.Walk.{Walk, walk, claimed, left_of, right_of, above_of, under_of, claimed_around, erased}
@@ -341,7 +341,7 @@ module _ (t : Float) (w : ℕ) (plane₀ : List Float) (s : ℕ) where
 
       pub done_plane : plane ≡ erased t w plane₀ s
       done_plane = ext_get_or nan plane (erased t w plane₀ s) (S.long ∙ sym (length-tabulate N at)) (λ i h.
-          S.values i ∙ ap (λ (b : Bool). cond b max_f32 (get_or plane₀ i nan)) (found i) ∙ sym (get_d_tabulate N at i nan (rw S.long at h)))
+          S.values i ∙ ap (λ (b : Bool). cond b max_f32 (get_or plane₀ i nan)) (found i) ∙ sym (get_or-tabulate N at i nan (rw S.long at h)))
         where
           at : ℕ → Float
           at i = cond (connected t w plane₀ s i) max_f32 (get_or plane₀ i nan)

@@ -21,7 +21,7 @@ use refusals::Shape;
 const MAX: f32 = 340282350000000000000000000000000000000.0;
 
 // The row of a cluster: the sum of its samples' columns, of their rows, and their number.
-#[derive(Drop)]
+#[derive(Clone, Copy)]
 pub struct Row {
     pub x: u64,
     pub y: u64,

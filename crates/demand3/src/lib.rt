@@ -22,7 +22,7 @@ use refusals::Frame;
 use tables::Family;
 
 // The readings of the four starts of a quad, start 0 first.
-#[derive(Drop)]
+#[derive(Clone, Copy)]
 pub struct Starts {
     pub s0: Reading,
     pub s1: Reading,

@@ -9,7 +9,7 @@ use lib.Seq.{sets}
 use Rattle.lists.specs.Front.{in_front}
 use Rattle.lists.specs.Tab.{tabulate}
 use Rattle.lists.proofs.Flat.{part_at, parts_none, parts_more}
-use Rattle.lists.proofs.Tab.{length-tabulate, get_d_tabulate}
+use Rattle.lists.proofs.Tab.{length-tabulate, get_or-tabulate}
 use Rattle.points.specs.declared.Quad.{Quad}
 use Rattle.points.specs.Numbers.{quad_size, quad_at, numbers_of}
 use Rattle.points.proofs.Numbers.{quad_of_numbers}
@@ -46,4 +46,4 @@ module _ (family : Family) (grid : Grid) (print : Print) (output : List Float) w
       let numbers = flat_map numbers_of quads in
       quad_of_numbers (in_front numbers output) position (position_quad family grid print position)
       (part_at numbers_of quad_size size quads (drop (length numbers) output) position none (omega (arith, length-tabulate (tag_count grid) (position_quad family grid print)))
-      ∙ ap numbers_of (get_d_tabulate (tag_count grid) (position_quad family grid print) position none h))
+      ∙ ap numbers_of (get_or-tabulate (tag_count grid) (position_quad family grid print) position none h))

@@ -9,7 +9,7 @@ use lib.ListN.{length, get_or}
 use Rattle.lists.specs.Sum.{sum}
 use Rattle.lists.specs.Tab.{tabulate}
 use Rattle.lists.proofs.Sum.{sum_ext}
-use Rattle.lists.proofs.Tab.{length-tabulate, get_d_tabulate}
+use Rattle.lists.proofs.Tab.{length-tabulate, get_or-tabulate}
 use Rattle.word.specs.Word.{bit, word}
 use Rattle.levels.specs.Levels.{over_all, least_of, greatest_of, middle_of, above, word_of, unsure, unsure_of, code_of}
 use Rattle.levels.proofs.Reorder.{Reorders, reorders_lt, reorders_onto}
@@ -29,7 +29,7 @@ reordered_word n σ w = word n (λ place. bit w (n - 1 - σ (n - 1 - place)))
 
 module _ (l : List ℕ) (σ : ℕ → ℕ) (keeps : Reorders (length l) σ) where
   at : (k : ℕ) → k < length l → get_or (reordered σ l) k 0 ≡ get_or l (σ k) 0
-  at k h = get_d_tabulate (length l) (λ j. get_or l (σ j) 0) k 0 h
+  at k h = get_or-tabulate (length l) (λ j. get_or l (σ j) 0) k 0 h
 
   long : length (reordered σ l) ≡ length l
   long = length-tabulate (length l) (λ j. get_or l (σ j) 0)

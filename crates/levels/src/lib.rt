@@ -5,14 +5,14 @@ ghost use Rattle.std.specs.Prelude.{◌≡◌, ◌+◌, ◌/◌, ◌<◌, ◌≤
 ghost use Rattle.levels.specs.Levels.{least_of, greatest_of, above, word_of, distance, unsure, unsure_of, code_of};
 ghost use Rattle.levels.specs.Bits.{paper_bits};
 
-#[derive(Drop)]
+#[derive(Clone, Copy)]
 pub enum Bits {
     Word(u64),
     Refused(u8),
 }
 
 // The least and the greatest of some levels.
-#[derive(Drop)]
+#[derive(Clone, Copy)]
 pub struct Range {
     pub least: u8,
     pub greatest: u8,

@@ -8,7 +8,7 @@ use native.Mathlib.Omega.{arith}
 use lib.Ieee.{Float}
 use lib.ListN.{length, get_or, drop}
 use Rattle.lists.specs.Front.{in_front}
-use Rattle.lists.proofs.Tab.{length-tabulate, get_d_tabulate}
+use Rattle.lists.proofs.Tab.{length-tabulate, get_or-tabulate}
 use Rattle.lists.proofs.Rows.{tabulate_ext}
 use Rattle.refusals.specs.Outcome.{Outcome, accepted, refused}
 use Rattle.refusals.specs.declared.Frame.{Frame}
@@ -40,7 +40,7 @@ module _ (plane : List ℕ) (frame : Frame) (family : Family) (codes : List ℕ)
 
   pub reading_at : (q : ℕ) → q < count → get_or all q (refused 0) ≡ read q
   unfolding readings
-  reading_at q h = get_d_tabulate count read q (refused 0) h
+  reading_at q h = get_or-tabulate count read q (refused 0) h
 
   length_said : length (listed all) ≡ count
   length_said = length-listed all ∙ length-readings

@@ -12,7 +12,7 @@ use Rattle.lists.specs.Sum.{one_if}
 use Rattle.lists.proofs.Bools.{and_parts}
 use Rattle.lists.proofs.Each.{any_found, any_from, any_ext}
 use Rattle.lists.proofs.Sum.{sum_two, sum_alone}
-use Rattle.lists.proofs.Tab.{length-tabulate, get_d_tabulate}
+use Rattle.lists.proofs.Tab.{length-tabulate, get_or-tabulate}
 use Rattle.refusals.specs.Outcome.{Outcome, accepted, refused}
 use Rattle.reader.specs.Reading.{Tag}
 use Rattle.listing.specs.Repeated.{gives_id, gives_too, given_elsewhere, in_list, listed}
@@ -29,7 +29,7 @@ module _ (read : List (Outcome Tag)) where
 
   pub listed_at : (q : ℕ) → q < length read → get_or (listed read) q (refused 0) ≡ in_list read q (read_at q)
   unfolding listed
-  listed_at q h = get_d_tabulate (length read) (λ q. in_list read q (read_at q)) q (refused 0) h
+  listed_at q h = get_or-tabulate (length read) (λ q. in_list read q (read_at q)) q (refused 0) h
 
   module _ (q id : ℕ) where
     -- the other quad

@@ -15,11 +15,11 @@ module _ {ℓ} {A : Type ℓ} where
   length-tabulate zero f = refl
   length-tabulate (suc n) f = ap suc (length-tabulate n (λ i. f (suc i)))
 
-  pub get_d_tabulate : (n : ℕ) (f : ℕ → A) (i : ℕ) (d : A) → i < n → get_or (tabulate n f) i d ≡ f i
+  pub get_or-tabulate : (n : ℕ) (f : ℕ → A) (i : ℕ) (d : A) → i < n → get_or (tabulate n f) i d ≡ f i
   unfolding tabulate
-  get_d_tabulate zero f i d h = absurd (not-suc-le-zero h)
-  get_d_tabulate (suc n) f zero d h = refl
-  get_d_tabulate (suc n) f (suc i) d h = get_d_tabulate n (λ k. f (suc k)) i d (le_of_suc-le-suc h)
+  get_or-tabulate zero f i d h = absurd (not-suc-le-zero h)
+  get_or-tabulate (suc n) f zero d h = refl
+  get_or-tabulate (suc n) f (suc i) d h = get_or-tabulate n (λ k. f (suc k)) i d (le_of_suc-le-suc h)
 
   tabulate_snoc : (n : ℕ) (f : ℕ → A) → tabulate (suc n) f ≡ tabulate n f ++ (f n ∷ [])
   unfolding tabulate

@@ -21,7 +21,7 @@ use refusals::Frame;
 use tables::Family;
 
 // A reading of a picture, and whether the painted tag's samples are lit there as ticket 8 asks.
-#[derive(Drop)]
+#[derive(Clone, Copy)]
 pub struct LitReading {
     pub lit: bool,
     pub reading: Reading,

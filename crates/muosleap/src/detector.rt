@@ -16,13 +16,13 @@ use search::Found;
 use tables::Family;
 use tag_families::codes::CODES;
 
-#[derive(Drop)]
+#[derive(Clone, Copy)]
 pub enum Turned {
     Word(u64),
     Refused(u8),
 }
 
-#[derive(Drop)]
+#[derive(Clone, Copy)]
 pub enum Likeness {
     Passed,
     Refused(u8),

@@ -6,7 +6,7 @@ ghost use Rattle.muosleap.specs.Quads.{paper_listed, decode_quads, decode_quads_
 use refusals::Frame;
 use tables::Family;
 
-#[derive(Drop)]
+#[derive(Clone, Copy)]
 pub enum Listed {
     Done(usize),
     Refused(u8),

@@ -6,7 +6,7 @@ use painter::Print;
 use points::Quad;
 use refusals::Frame;
 
-#[derive(Drop)]
+#[derive(Clone, Copy)]
 pub enum Painted {
     Tag(Quad),
     Refused(u8),

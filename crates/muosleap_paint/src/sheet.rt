@@ -8,7 +8,7 @@ use refusals::Frame;
 use tables::Family;
 use tag_families::codes::CODES;
 
-#[derive(Drop)]
+#[derive(Clone, Copy)]
 pub enum Sheet {
     Painted,
     Refused(u8),

@@ -8,13 +8,13 @@ use refusals::{Shape, bad_plane};
 use samples::{all_in_unit, all_tame};
 
 // What a call answers that fills planes.
-#[derive(Drop)]
+#[derive(Clone, Copy)]
 pub enum Filled {
     Done,
     Refused(u8),
 }
 
-#[derive(Drop)]
+#[derive(Clone, Copy)]
 pub enum Threshold {
     At(f32),
     Refused(u8),

@@ -6,13 +6,13 @@ ghost use Rattle.muosleap_picture.specs.ClusterCenter.{paper_center, cluster_cen
 use points::Point;
 use refusals::Shape;
 
-#[derive(Drop)]
+#[derive(Clone, Copy)]
 pub enum Clusters {
     Total(usize),
     Refused(u8),
 }
 
-#[derive(Drop)]
+#[derive(Clone, Copy)]
 pub enum Center {
     At(Point),
     Refused(u8),

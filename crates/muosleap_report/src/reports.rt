@@ -7,13 +7,13 @@ use listing::{MOST_QUADS, ROW_SIZE};
 use points::QUAD_SIZE;
 use report_writer::Size;
 
-#[derive(Drop)]
+#[derive(Clone, Copy)]
 pub enum Written {
     Bytes(usize),
     Refused(u8),
 }
 
-#[derive(Drop)]
+#[derive(Clone, Copy)]
 pub enum Reread {
     Rows(usize),
     Refused(u8),

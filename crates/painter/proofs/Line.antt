@@ -8,7 +8,7 @@ use native.Mathlib.Omega.{arith}
 use lib.ListN.{length, get_or}
 use Rattle.lists.proofs.Bools.{and_not_left, and_not_right}
 use Rattle.lists.proofs.Grid.{next_row}
-use Rattle.lists.proofs.Tab.{length-tabulate, get_d_tabulate}
+use Rattle.lists.proofs.Tab.{length-tabulate, get_or-tabulate}
 use Rattle.painter.specs.Picture.{between, run_written}
 use Rattle.painter.specs.Tag.{cell_at, shows_light, shade_of, size_of}
 use Rattle.painter.specs.Part.{RowOf, row_shade, row_line, dark_line}
@@ -39,7 +39,7 @@ module _ (edge border word : ℕ) (print : Print) (row : ℕ) (r : RowOf edge bo
   -- pixel k is dark where its cell has no module
   stays_dark : (k : ℕ) → k < size → is_module edge border (cell_at row (k / cell)) ≡ false → get_or dark k 0 ≡ shade k
   stays_dark k h e =
-      get_d_tabulate size (λ k. print.dark) k 0 h
+      get_or-tabulate size (λ k. print.dark) k 0 h
       ∙ sym (border_shade edge border word print (cell_at row (k / cell)) (record { rows = r.inside; columns = (div-lt_iff_lt-mul {k = cell} r.some).1 h }) e)
 
   long : length dark ≡ size
@@ -82,7 +82,7 @@ module _ (edge border word : ℕ) (print : Print) (row : ℕ) (r : RowOf edge bo
     pub dark_module : shows_light edge border word print (cell_at row column) ≡ false → line ≡ run_written 0 ((column + 1) * cell) shade dark
     dark_module unlit =
         e ∙ run_as_is shade dark (column * cell) cell (λ k b i.
-        get_d_tabulate size (λ k. print.dark) k 0 (omega (arith, b, long))
+        get_or-tabulate size (λ k. print.dark) k 0 (omega (arith, b, long))
         ∙ sym (cell-shade column k i ∙ ap (λ (t : Bool). cond t print.light print.dark) unlit))
         ∙ ap (λ (n : ℕ). run_written 0 n shade dark) (next_row cell column)
 

@@ -9,7 +9,7 @@ use lib.Arith.{digits_div}
 use lib.ListN.{length, get_or}
 use Rattle.lists.proofs.Grid.{next_row}
 use Rattle.lists.proofs.Bools.{overlay}
-use Rattle.lists.proofs.Tab.{length-tabulate, get_d_tabulate}
+use Rattle.lists.proofs.Tab.{length-tabulate, get_or-tabulate}
 use Rattle.refusals.specs.declared.Frame.{Frame}
 use Rattle.painter.specs.Picture.{in_block, repainted, block_pixel}
 use Rattle.painter.specs.Tag.{cell_at, shade_of, cell_of, size_of}
@@ -66,7 +66,7 @@ module _ (frame : Frame) (edge border word : ℕ) (print : Print) (plane : List 
       let i = is_in x0 (y0 + n) size cell x y t in
       let b : x - x0 < size = omega (arith, i.across.from, i.across.to) in
       ap (λ (k : List ℕ). get_or k (x - x0) 0) l
-      ∙ get_d_tabulate size (row_shade edge border word print row) (x - x0) 0 b
+      ∙ get_or-tabulate size (row_shade edge border word print row) (x - x0) 0 b
       ∙ ap (λ (v : ℕ). shade_of edge border word print (cell_at v ((x - x0) / cell))) (sym (cell_at_lem y0 cell row y i.down)))
       ∙ ap (λ (t : Bool). cond t (shade x y) old) (sym (more_rows x0 y0 size n cell x y))
       ∙ ap (λ (m : ℕ). part m x y old) (next_row cell row))

@@ -7,7 +7,7 @@ use native.Mathlib.Omega.{arith}
 use borrow.Author.Tests.{lt-ltb, ltb-true}
 use lib.Dec.{ltb}
 use lib.ListN.{length, get_or}
-use Rattle.lists.proofs.Tab.{length-tabulate, get_d_tabulate}
+use Rattle.lists.proofs.Tab.{length-tabulate, get_or-tabulate}
 use Rattle.refusals.specs.declared.Frame.{Frame}
 use Rattle.refusals.specs.Pixels.{place_of, column_of, line_of, is_pixel}
 use Rattle.refusals.proofs.Pixels.{place_column, place_row, Framed, pixel_inside}
@@ -22,7 +22,7 @@ module _ (frame : Frame) where
   byte_repainted : (f : ℕ → ℕ → ℕ → ℕ) (plane : List ℕ) (k d : ℕ) → k < length plane
       → get_or (repainted frame f plane) k d ≡ repainted_byte frame f k (get_or plane k 0)
   unfolding repainted
-  byte_repainted f plane k d h = get_d_tabulate (length plane) (λ k. repainted_byte frame f k (get_or plane k 0)) k d h
+  byte_repainted f plane k d h = get_or-tabulate (length plane) (λ k. repainted_byte frame f k (get_or plane k 0)) k d h
 
   -- a list with the same bytes is the painted plane
   pub is_repainted : (f : ℕ → ℕ → ℕ → ℕ) (plane out : List ℕ) → length out ≡ length plane

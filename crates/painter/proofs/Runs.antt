@@ -10,7 +10,7 @@ use lib.Dec.{ltb, leb, eqb}
 use lib.ListN.{length, get_or, set, length-set}
 use lib.Seq.{ext_get_or, get_or-set_same, get_or-set_other}
 use Rattle.lists.specs.Tab.{tabulate}
-use Rattle.lists.proofs.Tab.{length-tabulate, get_d_tabulate}
+use Rattle.lists.proofs.Tab.{length-tabulate, get_or-tabulate}
 use Rattle.lists.proofs.Bools.{and_left, and_right, overlay}
 use Rattle.painter.specs.Picture.{between, run_written}
 
@@ -73,7 +73,7 @@ between_more x0 n m x = go (ltb x x0) refl (ltb x (x0 + n)) refl
 pub tabulated : (f : ℕ → ℕ) (n : ℕ) (l : List ℕ) → length l ≡ n → ((k : ℕ) → k < n → get_or l k 0 ≡ f k) → l ≡ tabulate n f
 tabulated f n l e h =
     ext_get_or 0 l (tabulate n f) (e ∙ sym (length-tabulate n f))
-    (λ k b. let b' : k < n = omega arith in h k b' ∙ sym (get_d_tabulate n f k 0 b'))
+    (λ k b. let b' : k < n = omega arith in h k b' ∙ sym (get_or-tabulate n f k 0 b'))
 
 module _ (start : ℕ) (new : ℕ → ℕ) (bytes : List ℕ) where
   -- byte k, after n of the run are written
@@ -84,7 +84,7 @@ module _ (start : ℕ) (new : ℕ → ℕ) (bytes : List ℕ) where
   length_run n = length-tabulate (length bytes) (byte n)
 
   pub byte_run : (n k : ℕ) → k < length bytes → get_or (run_written start n new bytes) k 0 ≡ byte n k
-  byte_run n k h = get_d_tabulate (length bytes) (byte n) k 0 h
+  byte_run n k h = get_or-tabulate (length bytes) (byte n) k 0 h
 
   -- nothing is written yet
   pub run_none : bytes ≡ run_written start 0 new bytes

@@ -25,7 +25,7 @@ pub struct Print {
 }
 
 // A cell of a tag's square, borders included, by its row and column.
-#[derive(Drop)]
+#[derive(Clone, Copy)]
 pub struct Cell {
     pub row: usize,
     pub column: usize,

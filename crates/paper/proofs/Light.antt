@@ -9,7 +9,7 @@ use lib.ListN.{length, get_or}
 use Rattle.lists.specs.Each.{each}
 use Rattle.lists.proofs.Bools.{same_test}
 use Rattle.lists.proofs.Each.{each_at, each_of}
-use Rattle.lists.proofs.Tab.{length-tabulate, get_d_tabulate}
+use Rattle.lists.proofs.Tab.{length-tabulate, get_or-tabulate}
 use Rattle.refusals.specs.declared.Frame.{Frame}
 use Rattle.points.specs.declared.Quad.{Quad}
 use Rattle.points.specs.Turned.{turned_once, turned_left}
@@ -48,7 +48,7 @@ module _ (light : ℕ) (p l : List ℕ) (σ : ℕ → ℕ) (same : length p ≡ 
   moved k h =
       ap (λ (m : ℕ). clears_at m light (reordered σ p) (reordered σ l) k) middle
       ∙ ap₂ (λ (a b : ℕ). clears (middle_of l) (eqb a light) b)
-      (get_d_tabulate (length p) (λ j. get_or p (σ j) 0) k 0 (subst (λ (n : ℕ). k < n) (sym same) h)) (get_d_tabulate (length l) (λ j. get_or l (σ j) 0) k 0 h)
+      (get_or-tabulate (length p) (λ j. get_or p (σ j) 0) k 0 (subst (λ (n : ℕ). k < n) (sym same) h)) (get_or-tabulate (length l) (λ j. get_or l (σ j) 0) k 0 h)
 
   all_cleared : each (length (reordered σ l)) cleared' ≡ each (length l) cleared
   all_cleared =

@@ -5,7 +5,7 @@ use mathlib.Core.Bool.{false}
 use mathlib.Core.List.{List}
 use Prim.Native.Nat.{ℕ, ◌-◌, ◌<◌}
 use lib.ListN.{length, get_or}
-use Rattle.lists.proofs.Tab.{get_d_tabulate}
+use Rattle.lists.proofs.Tab.{get_or-tabulate}
 use Rattle.refusals.specs.Pixels.{level_at}
 use Rattle.refusals.specs.declared.Frame.{Frame}
 use Rattle.points.specs.declared.Quad.{Quad}
@@ -35,7 +35,7 @@ module _ (family : Family) (codes : List ℕ) (id word : ℕ) (plane : List ℕ)
   shades : (k : ℕ) → k < samples family → get_or (levels_of shown frame family (axes_of found)) k 0 ≡ shade_of_bit print.light print.dark (bit word (samples family - 1 - k))
   unfolding levels_of
   shades k l =
-      get_d_tabulate (samples family) (λ j. level_at shown frame (column (axes_of found) family j) (row (axes_of found) family j)) k 0 l
+      get_or-tabulate (samples family) (λ j. level_at shown frame (column (axes_of found) family j) (row (axes_of found) family j)) k 0 l
       ∙ ap (λ (p : List ℕ). level_at p frame (column (axes_of found) family k) (row (axes_of found) family k)) tag.shown_is
       ∙ Near-level (length plane) frame family word print tag.prints e small plane refl found Near-own k l
 

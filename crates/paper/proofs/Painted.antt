@@ -9,7 +9,7 @@ use native.Mathlib.Omega.{arith}
 use borrow.Author.Tests.{le-leb, eq-eqb, ne_eqb}
 use lib.Dec.{eqb}
 use lib.ListN.{length, get_or}
-use Rattle.lists.proofs.Tab.{get_d_tabulate}
+use Rattle.lists.proofs.Tab.{get_or-tabulate}
 use Rattle.lists.proofs.Each.{each_of}
 use Rattle.refusals.specs.Pixels.{level_at}
 use Rattle.refusals.specs.declared.Frame.{Frame}
@@ -82,7 +82,7 @@ module _ (plane : List ℕ) (frame : Frame) (family : Family) (codes : List ℕ)
   pub level_at_lem : (k : ℕ) → k < samples family → get_or levels k 0 ≡ shade_of_bit print.light print.dark (bit w (samples family - 1 - k))
   unfolding levels_of
   level_at_lem k h =
-      get_d_tabulate (samples family) (λ j. level_at picture frame (column (axes_of quad) family j) (row (axes_of quad) family j)) k 0 h
+      get_or-tabulate (samples family) (λ j. level_at picture frame (column (axes_of quad) family j) (row (axes_of quad) family j)) k 0 h
       ∙ print_level (length plane) frame family w print p plane refl k h
 
   size : length levels ≡ samples family

@@ -13,7 +13,7 @@ use tag_families::codes::CODES;
 use text::{put, put_byte, put_number};
 
 // What a digit or a line stands for.
-#[derive(Drop)]
+#[derive(Clone, Copy)]
 enum Hex {
     Number(u64),
     Bad,

@@ -8,7 +8,7 @@ use lib.ListN.{length, get_or}
 use Rattle.lists.proofs.Rows.{tabulate_ext}
 use Rattle.lists.specs.Tab.{tabulate}
 use Rattle.lists.specs.Each.{each}
-use Rattle.lists.proofs.Tab.{length-tabulate, get_d_tabulate}
+use Rattle.lists.proofs.Tab.{length-tabulate, get_or-tabulate}
 use Rattle.lists.proofs.Bools.{same_test}
 use Rattle.lists.proofs.Each.{each_at, each_of}
 use Rattle.refusals.specs.Outcome.{Outcome, accepted, refused}
@@ -65,7 +65,7 @@ module _ (family : Family) (q : Quad) where
       levels_turned =
           tabulate_ext (samples family) (level (turned_once q)) (λ k. get_or (levels_of plane frame family (axes_of q)) (source family.edge k) 0) (λ k h.
           ap₂ (level_at plane frame) (column_turned k h) (row_turned k h)
-          ∙ sym (get_d_tabulate (samples family) (level q) (source family.edge k) 0 (source-lt family.edge k h)))
+          ∙ sym (get_or-tabulate (samples family) (level q) (source family.edge k) 0 (source-lt family.edge k h)))
           ∙ ap (λ (n : ℕ). tabulate n (λ k. get_or (levels_of plane frame family (axes_of q)) (source family.edge k) 0)) (sym levels_size)
 
       -- and their word is turned once

@@ -29,7 +29,7 @@ pub enum Reading {
 }
 
 // The level at a sample, where that lies in the picture.
-#[derive(Drop)]
+#[derive(Clone, Copy)]
 pub enum Sample {
     Level(u8),
     Outside,

@@ -8,7 +8,7 @@ use native.Mathlib.Omega.{arith}
 use lib.ListN.{length, get_or, drop, length-drop}
 use lib.Seq.{drop-cons, ext_get_or}
 use Rattle.lists.specs.Tab.{tabulate, all}
-use Rattle.lists.proofs.Tab.{length-tabulate, get_d_tabulate}
+use Rattle.lists.proofs.Tab.{length-tabulate, get_or-tabulate}
 use Rattle.refusals.specs.Outcome.{Outcome, refused}
 use Rattle.reader.specs.Reading.{Tag}
 use Rattle.report.specs.Bytes.{row_bytes}
@@ -73,7 +73,7 @@ module _ (report : List ℕ) (count : ℕ) where
   rows_all n e =
       let long : length rows_of ≡ n = length-rows_in count (drop 2 report) ∙ sym e in
       ext_get_or (refused 0) (tabulate n row_at) rows_of (length-tabulate n row_at ∙ sym long)
-      (λ i h. get_d_tabulate n row_at i (refused 0) (subst (λ (k : ℕ). i < k) (length-tabulate n row_at) h))
+      (λ i h. get_or-tabulate n row_at i (refused 0) (subst (λ (k : ℕ). i < k) (length-tabulate n row_at) h))
 
   pub rows_say : count ≡ count_in report → rows_of ≡ report_says report
   unfolding report_says

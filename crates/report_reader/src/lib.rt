@@ -104,7 +104,7 @@ fn field_at(bytes: &[u8], present: u8, at: usize) -> u8
 }
 
 // What a tag's row says before its corners, and their place.
-#[derive(Drop)]
+#[derive(Clone, Copy)]
 struct Head {
     id: usize,
     turn: u8,

@@ -25,7 +25,7 @@ use report::REFUSED_MAP;
 use text::put_byte;
 
 // How long the report of some rows and corner numbers is, or that they are no reading.
-#[derive(Drop)]
+#[derive(Clone, Copy)]
 pub enum Size {
     Bytes(usize),
     NoReading,

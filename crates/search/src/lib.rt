@@ -11,14 +11,14 @@ ghost use Rattle.search.specs.Answer.{paper_found, paper_count};
 ghost use Rattle.refusals.specs.Outcome.{accepted};
 
 // The position of a code, and the number of bits in which it differs from a word. While no code is near, the match threshold stands there.
-#[derive(Drop)]
+#[derive(Clone, Copy)]
 pub struct Best {
     pub id: usize,
     pub differing: u8,
 }
 
 // What a search says, with the count of codes compared. `Unread` is refusal 13, and `BadTable` 6, which the entry gives and not this crate.
-#[derive(Drop)]
+#[derive(Clone, Copy)]
 pub enum Found {
     Tag {
         id: usize,

@@ -12,7 +12,7 @@ use vectors::answers::{row_at, same};
 use vectors::{Tally, least, product};
 
 // What is painted: the grid, and the tag at its position 0, but with the grid's print. The other tags have its table and frame.
-#[derive(Drop)]
+#[derive(Clone, Copy)]
 pub struct Board {
     pub grid: Grid,
     pub tag: Sheet,

@@ -111,15 +111,15 @@ fn refusal(plane: &mut [u8], table: &[u64], board: Board) -> u8 {
 }
 
 fn say_sides(rt: &impl Print, grid: Grid) -> io::Result<()> {
-    say(rt, "  sheets of ", grid.rows as u64)?;
-    say(rt, " x ", grid.columns as u64)
+    say(rt, b"  sheets of ", grid.rows as u64)?;
+    say(rt, b" x ", grid.columns as u64)
 }
 
 // The line of grid g.
 fn line(rt: &impl Print, plane: &mut [u8], table: &[u64], number: u8, g: usize) -> io::Result<()> {
     say_sides(rt, nth(number, g, 0))?;
     if is_good(number, g) {
-        return report(rt, ":", one_grid(plane, table, number, g));
+        return report(rt, b":", one_grid(plane, table, number, g));
     }
     refused(rt, refusal(plane, table, nth_board(number, g, 0)))
 }

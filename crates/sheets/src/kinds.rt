@@ -27,7 +27,7 @@ pub fn misprints_of(number: u8) -> usize {
 }
 
 // Modules that are misprinted: their bits, and how many they are.
-#[derive(Drop)]
+#[derive(Clone, Copy)]
 pub struct Wrong {
     pub bits: u64,
     pub modules: u8,

@@ -67,7 +67,7 @@ pub fn read_list(
 }
 
 pub fn refused(rt: &impl Print, number: u8) -> io::Result<()> {
-    say(rt, " refused by ", number as u64)?;
+    say(rt, b" refused by ", number as u64)?;
     println!(rt; "")
 }
 
@@ -85,17 +85,17 @@ fn listed(
     let mut corners = [9.0f32; 8200];
     match read_list(plane, table, sheet, quads, &mut rows, &mut corners) {
         Listed::Refused(number) => refused(rt, number),
-        Listed::Done(n) => report(rt, ":", rows_alike(&rows, &corners, n, sheet, quad, first)),
+        Listed::Done(n) => report(rt, b":", rows_alike(&rows, &corners, n, sheet, quad, first)),
     }
 }
 
 fn say_list(rt: &impl Print, misprinted: u8, n: usize, first: u8) -> io::Result<()> {
     if misprinted == 0 {
-        say(rt, "  list of ", n as u64)?;
+        say(rt, b"  list of ", n as u64)?;
     } else {
-        say(rt, "  misprinted, list of ", n as u64)?;
+        say(rt, b"  misprinted, list of ", n as u64)?;
     }
-    say(rt, " from start ", first as u64)
+    say(rt, b" from start ", first as u64)
 }
 
 fn list_of(

@@ -30,20 +30,20 @@ fn likeness(table: &[u64], number: u8) -> Tally {
 
 // The lines of a table.
 fn sheets(rt: &impl Print, plane: &mut [u8], table: &[u64], number: u8) -> io::Result<()> {
-    report(rt, "  likeness:", likeness(table, number))?;
+    report(rt, b"  likeness:", likeness(table, number))?;
     report(
         rt,
-        "  every code:",
+        b"  every code:",
         kinds::all(plane, table, number, kinds::TURNS),
     )?;
     report(
         rt,
-        "  misprinted:",
+        b"  misprinted:",
         kinds::all(plane, table, number, kinds::MISPRINTS),
     )?;
     report(
         rt,
-        "  in the plane's corners:",
+        b"  in the plane's corners:",
         kinds::all(plane, table, number, kinds::CORNERS),
     )
 }

@@ -14,7 +14,7 @@ use lib.Ieee.{Float, nan, inf, fin, neg, of_bits, lt, eq, le}
 use lib.Ieee.Scale.{finite}
 use Rattle.lists.specs.Tab.{all, tabulate}
 use Rattle.lists.proofs.All.{all_at}
-use Rattle.lists.proofs.Tab.{length-tabulate, get_d_tabulate}
+use Rattle.lists.proofs.Tab.{length-tabulate, get_or-tabulate}
 use Rattle.samples.specs.Samples.{tame}
 use Rattle.threshold.specs.Threshold.{lesser, lowest_of, lowest}
 use Rattle.threshold.proofs.Order.{le_refl, le_trans, le_total, lt-le, le_antisymm}
@@ -165,7 +165,7 @@ module _ (l : List Float) (some : 0 < length l) (fin_l : Finite l) (n : ℕ) whe
 
     at : (j : ℕ) → j < n → get_or next j nan ≡ lesser (get_or lanes j nan) (get_or l (i + j) nan)
     at j h =
-        ap (λ (x : List Float). get_or x j nan) is ∙ get_d_tabulate (length lanes) _ j nan (rw r.count h)
+        ap (λ (x : List Float). get_or x j nan) is ∙ get_or-tabulate (length lanes) _ j nan (rw r.count h)
         ∙ ap (λ (v : Float). lesser (get_or lanes j nan) v) (p j h)
 
     lane : (j : ℕ) → j < n → T (finite (get_or lanes j nan))

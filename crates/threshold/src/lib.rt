@@ -43,7 +43,7 @@ fn lowest_of(low: f32, samples: &[f32]) -> f32
 }
 
 // What one pass over a plane finds.
-#[derive(Drop)]
+#[derive(Clone, Copy)]
 struct Lowest {
     low: f32,
     tame: bool,
@@ -87,7 +87,7 @@ fn threshold_of(low: f32) -> f32
 
 // The threshold of a response, and whether every sample has a magnitude of at most 65,536. Where one has not, the threshold
 // means nothing.
-#[derive(Drop)]
+#[derive(Clone, Copy)]
 pub struct Found {
     pub threshold: f32,
     pub tame: bool,

@@ -34,7 +34,7 @@ pub const BUT_ONE: u8 = 2;
 pub const BITS: u8 = 3;
 
 // A sample, and the number that the next one is made from.
-#[derive(Drop)]
+#[derive(Clone, Copy)]
 struct Step {
     value: f32,
     next: u64,
@@ -89,7 +89,7 @@ pub fn fill(rule: u8, x: u64, s: &[u8], out: &mut [f32]) {
 }
 
 // Whether a list is, bit for bit, as long a list of floats as the four bytes each in `s`; and the digest with its patterns.
-#[derive(Drop)]
+#[derive(Clone, Copy)]
 pub struct Compared {
     pub alike: bool,
     pub digest: u64,

@@ -99,7 +99,7 @@ pub fn after(s: &[u8], at: usize) -> usize
 }
 
 // How many vectors were replayed, how many gave what they say, and where the last that did not stands in its file.
-#[derive(Drop)]
+#[derive(Clone, Copy)]
 pub struct Tally {
     pub seen: u64,
     pub alike: u64,
@@ -133,18 +133,20 @@ impl Tally {
 }
 
 // Prints a text and a number.
-pub fn say(rt: &impl Print, text: &str, number: u64) -> io::Result<()> {
-    print!(rt; "{text}{number}")
+pub fn say(rt: &impl Print, text: &[u8], number: u64) -> io::Result<()> {
+    rt.write_all(text)?;
+    print!(rt; "{number}")
 }
 
 // Prints a line with the counts and, where they differ, another that says where.
-pub fn report(rt: &impl Print, name: &str, tally: Tally) -> io::Result<()> {
-    let alike = tally.alike;
-    let seen = tally.seen;
-    let other = tally.other;
-    println!(rt; "{name} {alike} of {seen} alike")?;
-    if alike != seen {
-        println!(rt; "  the last that differs is at {other}")?;
+pub fn report(rt: &impl Print, name: &[u8], tally: Tally) -> io::Result<()> {
+    rt.write_all(name)?;
+    say(rt, b" ", tally.alike)?;
+    say(rt, b" of ", tally.seen)?;
+    rt.write_all(b" alike\n")?;
+    if tally.alike != tally.seen {
+        say(rt, b"  the last that differs is at ", tally.other as u64)?;
+        rt.write_all(b"\n")?;
     }
     Ok(())
 }

@@ -9,7 +9,7 @@ use vectors::{floats, least, rest, u8_at, u16_at, u32_at, u64_at};
 const UNTOUCHED: u64 = 7;
 
 // The refusal number, or 0 and the total.
-#[derive(Drop)]
+#[derive(Clone, Copy)]
 struct Walked {
     number: u8,
     total: usize,

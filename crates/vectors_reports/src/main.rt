@@ -66,7 +66,7 @@ fn replay(s: &[u8]) -> Tally {
 fn replay_file<R: Files + Print>(rt: &R, name: &str) -> io::Result<()> {
     let mut buffer = vectors::large_buffer();
     let n = vectors::load(rt, name, &mut buffer)?;
-    vectors::report(rt, name, replay(&buffer[..n]))
+    vectors::report(rt, name.as_bytes(), replay(&buffer[..n]))
 }
 
 fn main(rt: HostRuntime) -> io::Result<()> {

@@ -56,7 +56,7 @@ fn replay(flow: u8, s: &[u8], layout: u8) -> Tally {
 fn replay_at<R: Files + Print>(rt: &R, layout: u8, flow: u8, name: &str) -> io::Result<()> {
     let mut buffer = vectors::large_buffer();
     let n = vectors::load(rt, name, &mut buffer)?;
-    vectors::report(rt, name, replay(flow, &buffer[..n], layout))
+    vectors::report(rt, name.as_bytes(), replay(flow, &buffer[..n], layout))
 }
 
 fn replay_file<R: Files + Print>(rt: &R, flow: u8, name: &str) -> io::Result<()> {

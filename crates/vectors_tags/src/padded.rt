@@ -107,7 +107,7 @@ pub fn fill(plane: &mut [u8]) {
 }
 
 // What was seen of a plane after it was painted: the digest of its pixels, line by line, and whether every other byte is as before.
-#[derive(Drop)]
+#[derive(Clone, Copy)]
 pub struct Seen {
     pub digest: u64,
     pub kept: bool,

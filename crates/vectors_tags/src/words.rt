@@ -21,7 +21,7 @@ fn turn_alike(frame: &[u8]) -> bool {
 }
 
 // The answer of a search, which has no corners, and how many codes were compared, 0 where there is no count.
-#[derive(Drop)]
+#[derive(Clone, Copy)]
 struct Counted {
     answer: Answer,
     compared: u64,
@@ -61,7 +61,7 @@ fn counted_alike(s: &[u8], count: u64, searched: Counted) -> bool {
 }
 
 // A word, and the generator's last number.
-#[derive(Drop)]
+#[derive(Clone, Copy)]
 struct Drawn {
     bits: u64,
     last: u64,

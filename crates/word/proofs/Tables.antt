@@ -14,7 +14,7 @@ use Rattle.lists.specs.Tab.{all}
 use Rattle.lists.proofs.All.{all_of}
 use Rattle.lists.proofs.Bools.{and_not_left, and_not_right}
 use Rattle.lists.proofs.Grid.{square_le}
-use Rattle.lists.proofs.Tab.{length-tabulate, get_d_tabulate}
+use Rattle.lists.proofs.Tab.{length-tabulate, get_or-tabulate}
 use Rattle.word.specs.Word.{bit, word, source, turn}
 use Rattle.word.specs.Sources.{has_table, sources}
 use Rattle.word.specs.Gathered.{gathered}
@@ -33,7 +33,7 @@ module _ (e : ℕ) (table : List ℕ) (right : table ≡ sources e) where
   table_length = ap length right ∙ length-tabulate (e * e) (source e)
 
   pub table_place : (k : ℕ) → k < e * e → get_or table k 0 ≡ source e k
-  table_place k l = ap (λ (t : List ℕ). get_or t k 0) right ∙ get_d_tabulate (e * e) (source e) k 0 l
+  table_place k l = ap (λ (t : List ℕ). get_or t k 0) right ∙ get_or-tabulate (e * e) (source e) k 0 l
 
   pub table_turns : (w : ℕ) → gathered table w ≡ turn e w
   unfolding gathered turn
