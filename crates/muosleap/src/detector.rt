@@ -64,6 +64,7 @@ pub fn check_likeness(family: Family, codes: &[u64]) -> Likeness
 
 // Levels to bits: the word whose highest bit is the first level's, 1 where it is above the middle. Refusal 15 for no levels or
 // more than 64, 11 where greatest minus least is below 50, and 12 for more unsure levels than allowed.
+#[tactic(auto, using(std::proofs::lemmas::Bool::Decides::nat_tests), unfolding(crate::specs::BitCode::bit_code))]
 pub fn bit_code(levels: &[u8], band: u8, allowed: u32) -> Bits
     ensures { paper_bits result ≡ bit_code levels.now band allowed }
 {

@@ -39,6 +39,7 @@ pub fn try_decode_quads(
 }
 
 // The same by family number, over the constant tables. Refusal 6 where there is no such family.
+#[tactic(auto, using(std::proofs::lemmas::Bool::Decides::nat_tests), unfolding(crate::specs::Quads::decode_quads_in))]
 pub fn try_decode_quads_in(
     plane: &[u8],
     frame: Frame,

@@ -43,6 +43,7 @@ pub fn paint_tag(
 }
 
 // The same with the edge and the border of a family. Refusal 6 for a family number that there is none of.
+#[tactic(auto, using(std::proofs::lemmas::Bool::Decides::nat_tests, crate::proofs::PaintTag::paint_in), unfolding(crate::specs::PaintTag::paint_tag_in))]
 pub fn paint_tag_in(plane: &mut [u8], frame: Frame, family: u8, word: u64, print: Print) -> Painted
     ensures { ◌≡◌ {A = Painting} (record { answer = paper_painted result; plane = plane.new }) (paint_tag_in plane.old frame family word print) }
 {

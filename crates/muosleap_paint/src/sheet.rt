@@ -49,6 +49,7 @@ pub fn paint_sheet(
 }
 
 // The same by family number, over the constant tables. Refusal 6 where there is no such family.
+#[tactic(auto, using(std::proofs::lemmas::Bool::Decides::nat_tests, crate::proofs::PaintSheet::sheet_in), unfolding(crate::specs::PaintSheet::paint_sheet_in))]
 pub fn paint_sheet_in(
     plane: &mut [u8],
     frame: Frame,

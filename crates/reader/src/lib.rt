@@ -126,7 +126,8 @@ pub fn try_decode_quad(
     requires { (bad_frame (length plane.now) frame ≡ false) × (bad_table family codes.now ≡ false) }
     ensures { paper_reading result ≡ reading plane.now frame family codes.now quad }
 {
-    if places::bad_corners(quad) {
+    let is_bad = places::bad_corners(quad);
+    if is_bad {
         return Reading::Refused(8);
     }
     if places::corners_outside(quad, frame.width, frame.height) {

@@ -1,6 +1,6 @@
 // What several public entries share: the outcome of a call (specs/Outcome.antt), the structs that describe a plane,
 // refusal 1, and where a pixel of an 8-bit plane stands.
-#![tactic(auto)]
+#![tactic(auto, using(std::proofs::lemmas::Bool::Decides::nat_tests), unfolding(crate::specs::Plane::bad_sides, crate::specs::Plane::bad_plane, crate::specs::Pixels::bad_pitch, crate::specs::Pixels::bad_frame))]
 
 ghost use Rattle.std.specs.Prelude.{◌≡◌, ◌≤◌};
 ghost use Rattle.refusals.specs.Plane.{bad_sides, bad_plane};

@@ -109,7 +109,8 @@ pub fn best_tag(bits: u64, hamming_distance: u8, codes: &[u64], edge: u8) -> Fou
         while id < codes.len() {
             let differing = word::differing_bits(seen, codes[id]) as u8;
             best = Best { id, differing };
-            if differing == 0 {
+            let is_clean = differing == 0;
+            if is_clean {
                 compared += id + 1;
                 break 'turns;
             }

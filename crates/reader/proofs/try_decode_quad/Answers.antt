@@ -16,26 +16,26 @@ use Rattle.reader.proofs.Samples.{small_axes, part_size}
 use Rattle.reader.proofs.Order.{reading_8, reading_9, reading_10, reading_on, readable}
 use Rattle.reader.proofs.try_decode_quad.Goals as goal
 
-pub returns-then-bad_corners : goal.returns-then-bad_corners
-returns-then-bad_corners c =
+pub returns-then-is_bad : goal.returns-then-is_bad
+returns-then-is_bad c =
     let a = c.args in
-    sym (reading_8 a.plane.now a.frame a.family a.codes.now a.quad (sym c.bad_corners.ensures ∙ c.if-bad_corners.true))
+    sym (reading_8 a.plane.now a.frame a.family a.codes.now a.quad (sym c.bad_corners-is_bad.ensures ∙ c.if-is_bad.true))
 
 pub corners_outside-requires : goal.corners_outside-requires
-corners_outside-requires c = sym c.bad_corners.ensures ∙ c.if-bad_corners.false
+corners_outside-requires c = sym c.bad_corners-is_bad.ensures ∙ c.if-is_bad.false
 
 pub returns-then-corners_outside : goal.returns-then-corners_outside
 returns-then-corners_outside c =
     let a = c.args in
-    sym (reading_9 a.plane.now a.frame a.family a.codes.now a.quad (sym c.bad_corners.ensures ∙ c.if-bad_corners.false) (sym c.corners_outside.ensures ∙ c.if-corners_outside.true))
+    sym (reading_9 a.plane.now a.frame a.family a.codes.now a.quad (sym c.bad_corners-is_bad.ensures ∙ c.if-is_bad.false) (sym c.corners_outside.ensures ∙ c.if-corners_outside.true))
 
 pub axes_of-axes-requires : goal.axes_of-axes-requires
-axes_of-axes-requires c = sym c.bad_corners.ensures ∙ c.if-bad_corners.false
+axes_of-axes-requires c = sym c.bad_corners-is_bad.ensures ∙ c.if-is_bad.false
 
 pub sample_levels-requires : goal.sample_levels-requires
 sample_levels-requires c =
     let a = c.args in
-    (readable a.plane.now a.frame a.family a.codes.now c.requires.0 c.requires.1, small_axes a.quad c.axes_of-axes.result (sym c.bad_corners.ensures ∙ c.if-bad_corners.false) c.axes_of-axes.ensures, refl)
+    (readable a.plane.now a.frame a.family a.codes.now c.requires.0 c.requires.1, small_axes a.quad c.axes_of-axes.result (sym c.bad_corners-is_bad.ensures ∙ c.if-is_bad.false) c.axes_of-axes.ensures, refl)
 
 -- the flag says whether all samples lie in the picture
 inside_is : (plane : List ℕ) (frame : Frame) (family : Family) (axes axes' : Axes) (r t : Bool) (levels : List ℕ) → Sampled plane frame family axes r levels → axes ≡ axes' → r ≡ t → samples_inside frame family axes' ≡ t
@@ -44,7 +44,7 @@ inside_is plane frame family axes axes' r t levels s e q = ap (samples_inside fr
 pub returns-then-not-sample_levels : goal.returns-then-not-sample_levels
 returns-then-not-sample_levels c =
     let a = c.args in
-    sym (reading_10 a.plane.now a.frame a.family a.codes.now a.quad (sym c.bad_corners.ensures ∙ c.if-bad_corners.false) (sym c.corners_outside.ensures ∙ c.if-corners_outside.false)
+    sym (reading_10 a.plane.now a.frame a.family a.codes.now a.quad (sym c.bad_corners-is_bad.ensures ∙ c.if-is_bad.false) (sym c.corners_outside.ensures ∙ c.if-corners_outside.false)
     (inside_is a.plane.now a.frame a.family c.axes_of-axes.result (axes_of a.quad) c.sample_levels.result false c.sample_levels.new.levels c.sample_levels.ensures c.axes_of-axes.ensures c.if-not-sample_levels.true))
 
 pub overflow_mul-n : goal.overflow_mul-n
@@ -83,5 +83,5 @@ returns c =
     let all = c.if-not-sample_levels.false in
     c.decode_levels.ensures
     ∙ ap (λ (l : List ℕ). tag_of a.family a.codes.now a.quad (code_of l 10 3)) (c.sample_levels.ensures.sampled all ∙ ap (levels_of a.plane.now a.frame a.family) c.axes_of-axes.ensures)
-    ∙ sym (reading_on a.plane.now a.frame a.family a.codes.now a.quad (sym c.bad_corners.ensures ∙ c.if-bad_corners.false) (sym c.corners_outside.ensures ∙ c.if-corners_outside.false)
+    ∙ sym (reading_on a.plane.now a.frame a.family a.codes.now a.quad (sym c.bad_corners-is_bad.ensures ∙ c.if-is_bad.false) (sym c.corners_outside.ensures ∙ c.if-corners_outside.false)
     (inside_is a.plane.now a.frame a.family c.axes_of-axes.result (axes_of a.quad) c.sample_levels.result true levels c.sample_levels.ensures c.axes_of-axes.ensures all))
