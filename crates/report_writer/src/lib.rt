@@ -103,7 +103,8 @@ fn put_unless_zero(n: u8, report: &mut [u8], at: usize) -> usize
     requires { at + length (unless_zero n) ≤ length report.old }
     ensures { Put (unless_zero n) report.old at report.new result }
 {
-    if n == 0 {
+    let is_zero = n == 0;
+    if is_zero {
         return at;
     }
     put_byte(n, report, at)

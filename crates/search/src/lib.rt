@@ -101,8 +101,7 @@ pub fn best_tag(bits: u64, hamming_distance: u8, codes: &[u64], edge: u8) -> Fou
         id: 0,
         differing: hamming_distance,
     };
-    let mut seen = bits;
-    let mut turn: u8 = 0;
+    let (mut seen, mut turn) = (bits, 0u8);
     let mut compared = 0;
     'turns: while turn < 4 {
         let mut id = next_nearer(seen, hamming_distance, codes, 0);

@@ -12,16 +12,16 @@ some : (n : ℕ) → (n ≡ 0 → ⊥) → unless_zero n ≡ n ∷ []
 some zero h = absurd (h refl)
 some (suc n) h = refl
 
-pub returns-then-n-eq0 : goal.returns-then-n-eq0
-returns-then-n-eq0 c =
+pub returns-then-is_zero : goal.returns-then-is_zero
+returns-then-is_zero c =
     let a = c.args in
-    as_text (ap unless_zero (sym c.if-n-eq0.true)) (Put-none a.report.now a.at)
+    as_text (ap unless_zero (sym c.if-is_zero.true)) (Put-none a.report.now a.at)
 
 pub put_byte-requires : goal.put_byte-requires
 put_byte-requires c =
-    omega (arith, c.requires, ap length (some c.args.n c.if-n-eq0.false))
+    omega (arith, c.requires, ap length (some c.args.n c.if-is_zero.false))
 
 pub returns : goal.returns
 returns c =
     let a = c.args in
-    as_text (sym (some a.n c.if-n-eq0.false)) c.put_byte.ensures
+    as_text (sym (some a.n c.if-is_zero.false)) c.put_byte.ensures
