@@ -41,7 +41,7 @@ fn main() {
 
 #[cfg(original)]
 const HEAD: &str = "Written by `cargo run --release --bin bench` in tools/host, with ORIGINAL set. The original functions are built from \
-an unmodified copy of their files. Both sides are release builds for plain x86-64 and run in turns in one process on the same inputs; \
+an unmodified copy of their files. Both sides are release builds, ours for x86-64-v2 and the original for plain x86-64, and run in turns in one process on the same inputs; \
 before a row is measured, both sides' answers are held to be the same, where both give one. A time is the median of 15 rounds of about 20 ms.";
 
 #[cfg(original)]
