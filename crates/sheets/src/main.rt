@@ -58,25 +58,25 @@ fn table(rt: &impl Print, plane: &mut [u8], number: u8) -> io::Result<()> {
     grids::all(rt, plane, &room[0..n], number)
 }
 
-fn named(rt: &impl Print, plane: &mut [u8], number: u8, name: &str) -> io::Result<()> {
-    println!(rt; "{name}")?;
+fn named(rt: &impl Print, plane: &mut [u8], number: u8, name: &[u8]) -> io::Result<()> {
+    rt.write_all(name)?;
     table(rt, plane, number)
 }
 
 fn small_families(rt: &impl Print, plane: &mut [u8]) -> io::Result<()> {
-    named(rt, plane, 0, "T16H5")?;
-    named(rt, plane, 1, "T25H7")?;
-    named(rt, plane, 2, "T25H9")
+    named(rt, plane, 0, b"T16H5\n")?;
+    named(rt, plane, 1, b"T25H7\n")?;
+    named(rt, plane, 2, b"T25H9\n")
 }
 
 fn large_families(rt: &impl Print, plane: &mut [u8]) -> io::Result<()> {
-    named(rt, plane, 3, "T36H11")?;
-    named(rt, plane, 4, "T36H11B1")
+    named(rt, plane, 3, b"T36H11\n")?;
+    named(rt, plane, 4, b"T36H11B1\n")
 }
 
 fn own_tables(rt: &impl Print, plane: &mut [u8]) -> io::Result<()> {
-    named(rt, plane, 5, "a table of edge 8")?;
-    named(rt, plane, 6, "a table of edge 3")
+    named(rt, plane, 5, b"a table of edge 8\n")?;
+    named(rt, plane, 6, b"a table of edge 3\n")
 }
 
 fn main(rt: HostRuntime) -> io::Result<()> {

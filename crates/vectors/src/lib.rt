@@ -17,11 +17,12 @@ pub fn large_buffer() -> [u8; 65536]
     [0; 65536]
 }
 
-// Reads the file into `buffer`, and answers how many bytes it has there.
-pub fn load<R: Files>(rt: &R, path: &str, buffer: &mut [u8]) -> io::Result<usize>
+// Reads the file into `buffer`, and answers how many bytes it has there. A path that is no text names no file.
+pub fn load<R: Files>(rt: &R, path: &[u8], buffer: &mut [u8]) -> io::Result<usize>
     ensures { IfOk result (λ n. n ≤ length buffer.new) }
 {
-    let mut file = fs::open(rt, path)?;
+    let text = str::from_utf8(path).map_err(|_| io::Error::from(io::ErrorKind::InvalidInput))?;
+    let mut file = fs::open(rt, text)?;
     filling::fill(&mut file, buffer)
 }
 

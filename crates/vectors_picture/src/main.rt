@@ -33,18 +33,18 @@ fn replay(flow: u8, s: &[u8]) -> Tally {
     tally
 }
 
-fn replay_file<R: Files + Print>(rt: &R, flow: u8, name: &str) -> io::Result<()> {
+fn replay_file<R: Files + Print>(rt: &R, flow: u8, name: &[u8]) -> io::Result<()> {
     let mut buffer = vectors::large_buffer();
     let n = vectors::load(rt, name, &mut buffer)?;
-    vectors::report(rt, name.as_bytes(), replay(flow, &buffer[..n]))
+    vectors::report(rt, name, replay(flow, &buffer[..n]))
 }
 
 fn main(rt: HostRuntime) -> io::Result<()> {
-    replay_file(&rt, PLANES, "blur")?;
-    replay_file(&rt, PLANES, "response")?;
-    replay_file(&rt, PLANES, "threshold")?;
-    replay_file(&rt, PLANES, "refusals")?;
-    replay_file(&rt, CLUSTERS, "clusters")?;
-    replay_file(&rt, CLUSTERS, "center")?;
-    replay_file(&rt, CLUSTERS, "cluster_refusals")
+    replay_file(&rt, PLANES, b"blur")?;
+    replay_file(&rt, PLANES, b"response")?;
+    replay_file(&rt, PLANES, b"threshold")?;
+    replay_file(&rt, PLANES, b"refusals")?;
+    replay_file(&rt, CLUSTERS, b"clusters")?;
+    replay_file(&rt, CLUSTERS, b"center")?;
+    replay_file(&rt, CLUSTERS, b"cluster_refusals")
 }

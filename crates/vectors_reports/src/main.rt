@@ -63,13 +63,13 @@ fn replay(s: &[u8]) -> Tally {
     tally
 }
 
-fn replay_file<R: Files + Print>(rt: &R, name: &str) -> io::Result<()> {
+fn replay_file<R: Files + Print>(rt: &R, name: &[u8]) -> io::Result<()> {
     let mut buffer = vectors::large_buffer();
     let n = vectors::load(rt, name, &mut buffer)?;
-    vectors::report(rt, name.as_bytes(), replay(&buffer[..n]))
+    vectors::report(rt, name, replay(&buffer[..n]))
 }
 
 fn main(rt: HostRuntime) -> io::Result<()> {
-    replay_file(&rt, "writing")?;
-    replay_file(&rt, "reading")
+    replay_file(&rt, b"writing")?;
+    replay_file(&rt, b"reading")
 }

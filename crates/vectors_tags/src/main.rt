@@ -53,74 +53,78 @@ fn replay(flow: u8, s: &[u8], layout: u8) -> Tally {
     tally
 }
 
-fn replay_at<R: Files + Print>(rt: &R, layout: u8, flow: u8, name: &str) -> io::Result<()> {
+fn replay_at<R: Files + Print>(rt: &R, layout: u8, flow: u8, name: &[u8]) -> io::Result<()> {
     let mut buffer = vectors::large_buffer();
     let n = vectors::load(rt, name, &mut buffer)?;
-    vectors::report(rt, name.as_bytes(), replay(flow, &buffer[..n], layout))
+    vectors::report(rt, name, replay(flow, &buffer[..n], layout))
 }
 
-fn replay_file<R: Files + Print>(rt: &R, flow: u8, name: &str) -> io::Result<()> {
+fn replay_file<R: Files + Print>(rt: &R, flow: u8, name: &[u8]) -> io::Result<()> {
     replay_at(rt, padded::PACKED, flow, name)
 }
 
 fn replay_words<R: Files + Print>(rt: &R) -> io::Result<()> {
-    replay_file(rt, WORDS, "rotate_bits")?;
+    replay_file(rt, WORDS, b"rotate_bits")?;
     replay_families(rt)?;
-    replay_file(rt, WORDS, "lent")?;
-    replay_file(rt, WORDS, "limits")?;
-    replay_file(rt, WORDS, "likeness")?;
-    replay_file(rt, WORDS, "compared")
+    replay_file(rt, WORDS, b"lent")?;
+    replay_file(rt, WORDS, b"limits")?;
+    replay_file(rt, WORDS, b"likeness")?;
+    replay_file(rt, WORDS, b"compared")
 }
 
 fn replay_families<R: Files + Print>(rt: &R) -> io::Result<()> {
-    replay_file(rt, WORDS, "t16h5")?;
-    replay_file(rt, WORDS, "t25h7")?;
-    replay_file(rt, WORDS, "t25h9")?;
-    replay_file(rt, WORDS, "t36h11")?;
-    replay_file(rt, WORDS, "t36h11b1")
+    replay_file(rt, WORDS, b"t16h5")?;
+    replay_file(rt, WORDS, b"t25h7")?;
+    replay_file(rt, WORDS, b"t25h9")?;
+    replay_file(rt, WORDS, b"t36h11")?;
+    replay_file(rt, WORDS, b"t36h11b1")
 }
 
 fn replay_quads<R: Files + Print>(rt: &R) -> io::Result<()> {
-    replay_file(rt, QUADS, "corners")?;
-    replay_file(rt, QUADS, "readings")?;
-    replay_file(rt, QUADS, "lists")?;
-    replay_file(rt, QUADS, "refusals")?;
-    replay_file(rt, QUADS, "light")
+    replay_file(rt, QUADS, b"corners")?;
+    replay_file(rt, QUADS, b"readings")?;
+    replay_file(rt, QUADS, b"lists")?;
+    replay_file(rt, QUADS, b"refusals")?;
+    replay_file(rt, QUADS, b"light")
 }
 
 // The files of pictures at a layout with filler, under a heading that gives the pitch. What is not packed, or has no room so, is
 // replayed as it is and counted too.
-fn replay_padded<R: Files + Print>(rt: &R, layout: u8, heading: &str) -> io::Result<()> {
-    println!(rt; "{heading}")?;
-    replay_at(rt, layout, QUADS, "readings")?;
-    replay_at(rt, layout, QUADS, "lists")?;
-    replay_at(rt, layout, QUADS, "light")?;
-    replay_at(rt, layout, PAINTER, "paintings")?;
-    replay_at(rt, layout, PAINTER, "prints")?;
-    replay_at(rt, layout, PAINTER, "sheets")
+fn replay_padded<R: Files + Print>(rt: &R, layout: u8, heading: &[u8]) -> io::Result<()> {
+    rt.write_all(heading)?;
+    replay_at(rt, layout, QUADS, b"readings")?;
+    replay_at(rt, layout, QUADS, b"lists")?;
+    replay_at(rt, layout, QUADS, b"light")?;
+    replay_at(rt, layout, PAINTER, b"paintings")?;
+    replay_at(rt, layout, PAINTER, b"prints")?;
+    replay_at(rt, layout, PAINTER, b"sheets")
 }
 
 fn main(rt: HostRuntime) -> io::Result<()> {
     replay_words(&rt)?;
-    replay_file(&rt, LEVELS, "bit_code")?;
+    replay_file(&rt, LEVELS, b"bit_code")?;
     replay_quads(&rt)?;
-    replay_file(&rt, PAINTER, "paintings")?;
-    replay_file(&rt, PAINTER, "prints")?;
-    replay_file(&rt, PAINTER, "sheets")?;
-    replay_padded(&rt, padded::ZERO, "packed planes again at pitch width + 1:")?;
+    replay_file(&rt, PAINTER, b"paintings")?;
+    replay_file(&rt, PAINTER, b"prints")?;
+    replay_file(&rt, PAINTER, b"sheets")?;
+    replay_padded(
+        &rt,
+        padded::ZERO,
+        b"packed planes again at pitch width + 1:\n",
+    )?;
     replay_padded(
         &rt,
         padded::FULL,
-        "packed planes again at pitch width + 13:",
+        b"packed planes again at pitch width + 13:\n",
     )?;
     replay_padded(
         &rt,
         padded::NOISE,
-        "packed planes again at pitch 2 x width:",
+        b"packed planes again at pitch 2 x width:\n",
     )?;
     replay_padded(
         &rt,
         padded::NEXT_LINE,
-        "packed planes again at pitch width + 7:",
+        b"packed planes again at pitch width + 7:\n",
     )
 }
