@@ -17,7 +17,7 @@ pub fn large_buffer() -> [u8; 65536]
     [0; 65536]
 }
 
-// Reads the file into `buffer`, and answers how many bytes it has there. A path that is no text names no file.
+// Reads the file into `buffer`, and answers how many bytes it has there. A path that is no text is refused: `fs::open` takes text alone.
 pub fn load<R: Files>(rt: &R, path: &[u8], buffer: &mut [u8]) -> io::Result<usize>
     ensures { IfOk result (λ n. n ≤ length buffer.new) }
 {
