@@ -154,7 +154,7 @@ def lent():
     long = Table(8, 1, [numbers.next() for _ in range(1_024)])
     for code in [long.codes[0], long.codes[1_023]]:
         long.search(*(long.turned(code, turns) for turns in range(4)), code ^ 1)
-    # Tables about as long as one or two blocks of 16 codes, with two near codes before the equal one, which is the last.
+    # Tables about as long as one or two of the blocks of 16 codes by which the search once went, with two near codes before the equal one, which is the last.
     blocks = []
     for length in [15, 16, 17, 31, 32, 33, 49]:
         codes = [numbers.next() >> 28 for _ in range(length)]

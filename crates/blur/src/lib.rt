@@ -1,39 +1,36 @@
-// The blur. Each sample becomes a sum: its taps, which are the samples around it in its row or its column, each times its
-// weight, added up in the order of the weights. The sums of samples side by side are made in blocks of 16, since 16 sums stay in
-// registers while all weights are added, and are worked on in vector instructions. Near an edge, where taps are repeated, sums
-// are made one at a time across, and a whole row at a time down.
+//! The blur. Each sample becomes a sum: its taps, which are the samples around it in its row or its column, each times its
+//! weight, added up in the order of the weights. The sums of samples side by side are made in blocks of 32, since 32 sums stay in
+//! registers while all weights are added, and are worked on in vector instructions. Near an edge, where taps are repeated, sums
+//! are made one at a time across, and a whole row at a time down.
 #![tactic(auto)]
 
-ghost use Rattle.std.specs.Prelude.{◌≡◌, true, ◌+◌, ◌-◌, ◌*◌, ◌<◌, ◌≤◌, min, length, get_or};
+ghost use Rattle.std.specs.Prelude.{◌≡◌, ◌+◌, ◌-◌, ◌*◌, ◌<◌, ◌≤◌, length, get_or};
 ghost use Rattle.std.specs.Float.{nan};
 ghost use Rattle.lists.specs.Tab.{tabulate};
 ghost use Rattle.blur.specs.Blur.{bad_weights, along, repeated, across, down};
 ghost use Rattle.blur.specs.Steps.{added, apart, sums};
 
-use samples::clear;
+use samples::{Plane, UNIT};
 
-// Refusal 2.
+// How many sums are made together.
+const BLOCK: usize = 32;
+
+/// Refusal 2: the weights are not an odd number from 1 to 15, or one is outside of 0.0 to 1.0 or a NaN.
+#[tactic(auto, using(std::proofs::lemmas::Bool::Decides::nat_tests), unfolding(crate::specs::Blur::bad_weights))]
 pub fn bad_weights(weights: &[f32]) -> bool
     ensures { result ≡ bad_weights weights.now }
 {
-    if weights.len() % 2 == 0 {
-        return true;
-    }
-    if 15 < weights.len() {
-        return true;
-    }
-    !samples::all_in_unit(weights)
+    weights.len() % 2 == 0 || 15 < weights.len() || !UNIT.hold(weights)
 }
 
-// Adds to each sum the sample at its place times `weight`.
+// Adds to each sum the sample at its place times `weight`. The sums are gone over by their index: a proof knows what a loop over
+// `iter_mut().zip(samples)` leaves only by its length.
 fn add_weighted(sums: &mut [f32], samples: &[f32], weight: f32)
     requires { length samples.now ≡ length sums.old }
     ensures { sums.new ≡ added sums.old (λ x. get_or samples.now x nan) weight }
 {
-    let mut i = 0;
-    while i < sums.len() {
-        sums[i] = sums[i] + samples[i] * weight;
-        i += 1;
+    for (x, sum) in sums.iter_mut().enumerate() {
+        *sum += samples[x] * weight;
     }
 }
 
@@ -43,44 +40,22 @@ fn sum_taps(row: &mut [f32], img: &[f32], start: usize, step: usize, weights: &[
     ensures { row.new ≡ sums weights.now (apart img.now start step) (length row.old) (length weights.now) }
 {
     let n = row.len();
-    clear(row);
-    let mut k = 0;
-    while k < weights.len() {
+    row.fill(0.0);
+    for (k, &weight) in weights.iter().enumerate() {
         let from = k * step + start;
-        let end = from + n;
-        add_weighted(row, &img[from..end], weights[k]);
-        k += 1;
+        add_weighted(row, &img[from..from + n], weight);
     }
 }
 
-// Makes `to` the same as `from`.
-fn copy(to: &mut [f32], from: &[f32])
-    requires { length from.now ≡ length to.old }
-    ensures { to.new ≡ from.now }
-{
-    let mut i = 0;
-    while i < to.len() {
-        to[i] = from[i];
-        i += 1;
-    }
-}
-
-// The same for a block of 16 sums. They are added up in an array of their own, which the compiler keeps in registers: sums in
-// `block` would go to memory and back with each weight.
+// The same for a block. Its sums are added up in an array of their own, which the compiler keeps in registers: sums in `block`
+// would go to memory and back with each weight.
 fn sum_block(block: &mut [f32], img: &[f32], start: usize, step: usize, weights: &[f32])
-    requires { (length block.old ≡ 16) × ((length weights.now - 1) * step + start + 16 ≤ length img.now) }
-    ensures { block.new ≡ sums weights.now (apart img.now start step) 16 (length weights.now) }
+    requires { (length block.old ≡ 32) × ((length weights.now - 1) * step + start + 32 ≤ length img.now) }
+    ensures { block.new ≡ sums weights.now (apart img.now start step) 32 (length weights.now) }
 {
-    let mut lanes = [0.0; 16];
-    sum_taps(&mut lanes, img, start, step, weights);
-    copy(block, &lanes);
-}
-
-// The lesser of two numbers.
-fn least(a: usize, b: usize) -> usize
-    ensures { result ≡ min a b }
-{
-    if a < b { a } else { b }
+    let mut sums = [0.0; BLOCK];
+    sum_taps(&mut sums, img, start, step, weights);
+    block.copy_from_slice(&sums);
 }
 
 // The same for any number of sums, in blocks. The last block ends where the row ends. It may lie over a part of the block before
@@ -90,17 +65,19 @@ fn sum_blocks(row: &mut [f32], img: &[f32], start: usize, step: usize, weights: 
     ensures { row.new ≡ sums weights.now (apart img.now start step) (length row.old) (length weights.now) }
 {
     let n = row.len();
-    if n < 16 {
+    if n < BLOCK {
         sum_taps(row, img, start, step, weights);
         return;
     }
-    let last = n - 16;
-    let mut x = 0;
-    while x < n {
-        let from = least(x, last);
-        let end = from + 16;
-        sum_block(&mut row[from..end], img, start + from, step, weights);
-        x = end;
+    for block in 0..n.div_ceil(BLOCK) {
+        let from = (block * BLOCK).min(n - BLOCK);
+        sum_block(
+            &mut row[from..from + BLOCK],
+            img,
+            start + from,
+            step,
+            weights,
+        );
     }
 }
 
@@ -109,13 +86,7 @@ fn repeated_place(n: usize, r: usize, p: usize) -> usize
     requires { 0 < n }
     ensures { result ≡ repeated n r p }
 {
-    if p < r {
-        return 0;
-    }
-    if n <= p - r {
-        return n - 1;
-    }
-    p - r
+    p.saturating_sub(r).min(n - 1)
 }
 
 // Sample `x` of a row, blurred along the row. Beyond an end of the row the sample at that end is the tap.
@@ -126,101 +97,90 @@ fn blur_sample(samples: &[f32], x: usize, weights: &[f32]) -> f32
     let n = samples.len();
     let r = weights.len() / 2;
     let mut sum = 0.0;
-    let mut k = 0;
-    while k < weights.len() {
-        let tap = repeated_place(n, r, x + k);
-        sum = sum + samples[tap] * weights[k];
-        k += 1;
+    for (k, &weight) in weights.iter().enumerate() {
+        sum += samples[repeated_place(n, r, x + k)] * weight;
     }
     sum
 }
 
-// Whether sample `p` of a line of `n` has `r` samples on each side, so that all its taps lie in the line.
-fn inside(n: usize, r: usize, p: usize) -> bool
-    requires { p < n }
-    ensures { result ≡ true → (r ≤ p) × (r < n - p) }
+// The samples of a row from `first` on, one at a time.
+fn blur_samples(part: &mut [f32], samples: &[f32], first: usize, weights: &[f32])
+    requires { first + length part.old ≤ length samples.now }
+    ensures { part.new ≡ tabulate (length part.old) (λ i. along weights.now (length samples.now) (λ x. get_or samples.now x nan) (first + i)) }
 {
-    if p < r {
-        return false;
+    for (i, sum) in part.iter_mut().enumerate() {
+        *sum = blur_sample(samples, first + i, weights);
     }
-    r < n - p
 }
 
-// Blurs a row across: the samples near its ends one at a time, those between in blocks.
+// Blurs a row across: the samples near its ends one at a time, those between, which have all their taps in the row, in blocks.
 fn blur_row(row: &mut [f32], samples: &[f32], weights: &[f32])
     requires { (length samples.now ≡ length row.old) × (0 < length samples.now) }
     ensures { row.new ≡ tabulate (length row.old) (along weights.now (length row.old) (λ x. get_or samples.now x nan)) }
 {
     let n = samples.len();
     let r = weights.len() / 2;
-    let mut x = 0;
-    while x < n {
-        if inside(n, r, x) {
-            let end = n - r;
-            sum_blocks(&mut row[x..end], samples, x - r, 1, weights);
-            x = end;
-        } else {
-            row[x] = blur_sample(samples, x, weights);
-            x += 1;
-        }
+    if n <= 2 * r {
+        blur_samples(row, samples, 0, weights);
+        return;
     }
+    let end = n - r;
+    blur_samples(&mut row[0..r], samples, 0, weights);
+    sum_blocks(&mut row[r..end], samples, 0, 1, weights);
+    blur_samples(&mut row[end..n], samples, end, weights);
 }
 
-// "Across into a lent plane."
-pub fn blur_across(img: &[f32], width: usize, height: usize, weights: &[f32], temp: &mut [f32])
-    requires { (0 < width) × (length img.now ≡ width * height) × (length temp.old ≡ width * height) }
-    ensures { temp.new ≡ across img.now width height weights.now }
+/// "Across into a lent plane."
+#[tactic(auto, using(lists::proofs::Rows::row_fits))]
+pub fn blur_across(img: &Plane, weights: &[f32], temp: &mut [f32])
+    requires { length temp.old ≡ length img.now.samples.now }
+    ensures { temp.new ≡ across img.now.samples.now img.now.shape.width img.now.shape.height weights.now }
 {
-    let mut y = 0;
-    while y < height {
+    let width = img.shape.width;
+    for y in 0..img.shape.height {
         let start = y * width;
-        let end = start + width;
-        blur_row(&mut temp[start..end], &img[start..end], weights);
-        y += 1;
+        blur_row(&mut temp[start..start + width], img.row(y), weights);
     }
 }
 
 // Blurs row `y` of a plane down, one weight at a time over the whole row. Beyond an edge the row at that edge has the taps.
-fn sum_rows(row: &mut [f32], img: &[f32], height: usize, y: usize, weights: &[f32])
-    requires { (0 < length row.old) × (y < height) × (length img.now ≡ length row.old * height) × (length weights.now ≤ 15) × (height ≤ 4096) }
-    ensures { row.new ≡ tabulate (length row.old) (λ x. along weights.now height (λ r. get_or img.now (r * length row.old + x) nan) y) }
+#[tactic(auto, using(lists::proofs::Rows::row_fits))]
+fn sum_rows(row: &mut [f32], img: &Plane, y: usize, weights: &[f32])
+    requires { (length row.old ≡ img.now.shape.width) × (y < img.now.shape.height) }
+    ensures { row.new ≡ tabulate img.now.shape.width (λ x. along weights.now img.now.shape.height (λ r. get_or img.now.samples.now (r * img.now.shape.width + x) nan) y) }
 {
-    let width = row.len();
-    clear(row);
+    let height = img.shape.height;
     let r = weights.len() / 2;
-    let mut k = 0;
-    while k < weights.len() {
-        let start = repeated_place(height, r, y + k) * width;
-        let end = start + width;
-        add_weighted(row, &img[start..end], weights[k]);
-        k += 1;
+    row.fill(0.0);
+    for (k, &weight) in weights.iter().enumerate() {
+        add_weighted(row, img.row(repeated_place(height, r, y + k)), weight);
     }
 }
 
 // Blurs row `y` of a plane down, each sample along its column: in blocks, unless the row is near an edge.
-fn blur_row_down(row: &mut [f32], img: &[f32], height: usize, y: usize, weights: &[f32])
-    requires { (0 < length row.old) × (y < height) × (length img.now ≡ length row.old * height) × (length weights.now ≤ 15) × (height ≤ 4096) }
-    ensures { row.new ≡ tabulate (length row.old) (λ x. along weights.now height (λ r. get_or img.now (r * length row.old + x) nan) y) }
+#[tactic(auto, using(lists::proofs::Rows::row_fits))]
+fn blur_row_down(row: &mut [f32], img: &Plane, y: usize, weights: &[f32])
+    requires { (length row.old ≡ img.now.shape.width) × (y < img.now.shape.height) }
+    ensures { row.new ≡ tabulate img.now.shape.width (λ x. along weights.now img.now.shape.height (λ r. get_or img.now.samples.now (r * img.now.shape.width + x) nan) y) }
 {
-    let width = row.len();
+    let width = img.shape.width;
     let r = weights.len() / 2;
-    if inside(height, r, y) {
-        sum_blocks(row, img, (y - r) * width, width, weights);
+    if r <= y && r < img.shape.height - y {
+        sum_blocks(row, img.samples, (y - r) * width, width, weights);
     } else {
-        sum_rows(row, img, height, y, weights);
+        sum_rows(row, img, y, weights);
     }
 }
 
-// "Then down."
-pub fn blur_down(img: &[f32], width: usize, height: usize, weights: &[f32], out: &mut [f32])
-    requires { (0 < width) × (length img.now ≡ width * height) × (length out.old ≡ width * height) × (length weights.now ≤ 15) × (height ≤ 4096) }
-    ensures { out.new ≡ down img.now width height weights.now }
+/// "Then down."
+#[tactic(auto, using(lists::proofs::Rows::row_fits))]
+pub fn blur_down(img: &Plane, weights: &[f32], out: &mut [f32])
+    requires { length out.old ≡ length img.now.samples.now }
+    ensures { out.new ≡ down img.now.samples.now img.now.shape.width img.now.shape.height weights.now }
 {
-    let mut y = 0;
-    while y < height {
+    let width = img.shape.width;
+    for y in 0..img.shape.height {
         let start = y * width;
-        let end = start + width;
-        blur_row_down(&mut out[start..end], img, height, y, weights);
-        y += 1;
+        blur_row_down(&mut out[start..start + width], img, y, weights);
     }
 }

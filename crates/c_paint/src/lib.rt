@@ -1,36 +1,37 @@
-// The painting entries as C calls them: each answers the refusal's number, 0 where accepted. The plane and a sheet's output are lent on to
-// the entry; a lone tag's quad is written only where accepted. The form with a lent table and the form by family number share what comes
-// after the entry's answer. The crate muosleap_c exports them, and makes the structs of C's numbers.
+//! The painting entries as C calls them: each answers the refusal's number, 0 where accepted. The plane and a sheet's output are lent on to
+//! the entry; a lone tag's quad is written only where accepted. The form with a lent table and the form by family number share what comes
+//! after the entry's answer. The crate muosleap_c exports them, and makes the structs of C's numbers.
 #![tactic(auto)]
 
 ghost use Rattle.std.specs.Prelude.{◌≡◌};
 ghost use Rattle.refusals.specs.Outcome.{number};
-ghost use Rattle.muosleap_paint.specs.PaintTag.{paint_tag, paint_tag_in, paper_painted};
-ghost use Rattle.muosleap_paint.specs.PaintSheet.{paint_sheet, paint_sheet_in, paper_sheet};
+ghost use Rattle.refusals.specs.Numbers.{outcome};
+ghost use Rattle.muosleap_paint.specs.PaintTag.{paint_tag, paint_tag_in};
+ghost use Rattle.muosleap_paint.specs.PaintSheet.{done, paint_sheet, paint_sheet_in};
 ghost use Rattle.points.specs.Numbers.{numbers_of};
 ghost use Rattle.outputs.specs.Outputs.{Gives, held};
 ghost use Rattle.c_paint.specs.Paintings.{PaintsTag, PaintsSheet};
 
 use grid::Grid;
-use muosleap_paint::painting::Painted;
-use muosleap_paint::sheet::Sheet;
 use painter::Print;
-use refusals::Frame;
+use points::Quad;
+use refusals::{Frame, Refusal};
 use tables::Family;
 
 // A painting's outputs.
-fn put_painted(painted: Painted, quad: &mut [f32; 8]) -> u32
-    ensures { Gives (paper_painted painted) numbers_of result (held quad) }
+fn put_painted(painted: Result<Quad, Refusal>, quad: &mut [f32; 8]) -> u32
+    ensures { Gives (outcome painted) numbers_of result (held quad) }
 {
     match painted {
-        Painted::Tag(q) => {
-            points::put_quad(quad, 0, q);
+        Ok(corners) => {
+            points::put_quad(quad, 0, corners);
             0
         }
-        Painted::Refused(n) => n as u32,
+        Err(refusal) => refusal.number() as u32,
     }
 }
 
+/// One tag, with the edge and the border lent.
 pub fn paint_tag(
     plane: &mut [u8],
     frame: Frame,
@@ -46,6 +47,7 @@ pub fn paint_tag(
     put_painted(painted, quad)
 }
 
+/// One tag of a family.
 pub fn paint_tag_in(
     plane: &mut [u8],
     frame: Frame,
@@ -61,15 +63,16 @@ pub fn paint_tag_in(
 }
 
 // A sheet's answer.
-fn sheet_number(sheet: Sheet) -> u32
-    ensures { result ≡ number (paper_sheet sheet) }
+fn sheet_number(sheet: Result<(), Refusal>) -> u32
+    ensures { result ≡ number (done sheet) }
 {
     match sheet {
-        Sheet::Painted => 0,
-        Sheet::Refused(n) => n as u32,
+        Ok(()) => 0,
+        Err(why) => why.number() as u32,
     }
 }
 
+/// A sheet of a lent table.
 pub fn paint_sheet(
     plane: &mut [u8],
     frame: Frame,
@@ -85,6 +88,7 @@ pub fn paint_sheet(
     sheet_number(sheet)
 }
 
+/// A sheet of a family's table.
 pub fn paint_sheet_in(
     plane: &mut [u8],
     frame: Frame,

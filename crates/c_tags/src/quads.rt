@@ -1,19 +1,19 @@
-// Quads and lists of quads. The form with a lent table and the form by family number share what comes after the entry's answer.
+//! Quads and lists of quads. The form with a lent table and the form by family number share what comes after the entry's answer.
 ghost use Rattle.std.specs.Prelude.{◌≡◌};
 ghost use Rattle.refusals.specs.Outcome.{number};
+ghost use Rattle.refusals.specs.Numbers.{outcome};
 ghost use Rattle.reader.specs.Answer.{paper_reading};
 ghost use Rattle.muosleap.specs.Quad.{decode_quad, decode_quad_in};
-ghost use Rattle.muosleap.specs.Quads.{decode_quads, decode_quads_in, paper_listed};
+ghost use Rattle.muosleap.specs.Quads.{decode_quads, decode_quads_in};
 ghost use Rattle.points.specs.Numbers.{quad_at};
 ghost use Rattle.outputs.specs.Outputs.{held};
 ghost use Rattle.c_tags.specs.Tags.{ReadsTag, ReadsTags};
 
-use muosleap::quads::Listed;
 use reader::Reading;
-use refusals::Frame;
+use refusals::{Frame, Refusal};
 use tables::Family;
 
-// A reading's outputs.
+/// A reading's outputs.
 fn put_tag(
     read: Reading,
     id: &mut usize,
@@ -25,18 +25,18 @@ fn put_tag(
 {
     match read {
         Reading::Tag {
-            id: i,
-            turn: t,
-            differing: d,
-            corners: c,
+            id: own_id,
+            turn: own_turn,
+            differing: own_differing,
+            corners: own_corners,
         } => {
-            *id = i;
-            *turn = t;
-            *differing = d;
-            points::put_quad(corners, 0, c);
+            *id = own_id;
+            *turn = own_turn;
+            *differing = own_differing;
+            points::put_quad(corners, 0, own_corners);
             0
         }
-        Reading::Refused(n) => n as u32,
+        Reading::Refused(number) => u32::from(number),
     }
 }
 
@@ -75,13 +75,13 @@ pub fn try_decode_quad_in(
     put_tag(read, id, turn, differing, corners)
 }
 
-// A list's answer.
-fn list_number(listed: Listed) -> u32
-    ensures { result ≡ number (paper_listed listed) }
+/// A list's answer.
+fn list_number(listed: Result<usize, Refusal>) -> u32
+    ensures { result ≡ number (outcome listed) }
 {
     match listed {
-        Listed::Done(_) => 0,
-        Listed::Refused(n) => n as u32,
+        Ok(_) => 0,
+        Err(refusal) => u32::from(refusal.number()),
     }
 }
 

@@ -4,8 +4,10 @@ use mathlib.Core.Logic.{⊎_elim}
 use mathlib.Core.Bool.{false, true≢false}
 use mathlib.Core.List.{List}
 use Prim.Native.Nat.{ℕ, ◌+◌, ◌-◌, ◌≤◌, ◌<◌}
-use native.Mathlib.Decide.{dec_lt}
+use native.Mathlib.Decide.{dec_le, dec_lt}
 use native.Mathlib.Omega.{arith}
+use Rattle.std.specs.Prelude.{max}
+use Rattle.std.proofs.Math.Nat.{max-eq_left, max-eq_right}
 use lib.Ieee.{Float}
 use Rattle.lists.specs.Each.{any}
 use Rattle.lists.proofs.Bools.{test}
@@ -18,9 +20,6 @@ module _ (t : Float) (plane : List Float) (a end : ℕ) where
   Passed-none = record { onward = omega arith; before_end = λ _. refl; none = λ j l m. absurd (omega arith) }
 
   module _ (i : ℕ) (p : Passed t plane a end i) where
-    pub passed_le : (n : ℕ) → a ≤ n → end ≤ n → i ≤ n
-    passed_le n h k = elim (dec_lt end i) [ yes l ↦ omega (arith, p.before_end l) | no l ↦ omega arith ]
-
     -- d places more
     pub Passed-more : (d : ℕ) → i + d ≤ end → ((j : ℕ) → j < d → below t plane (i + j) ≡ false) → Passed t plane a end (i + d)
     Passed-more d h f = record {
@@ -39,6 +38,11 @@ module _ (t : Float) (plane : List Float) (a end : ℕ) where
         (λ b. b)
         (test (below t plane (i + j))))
 
-    -- one place
-    pub Passed-one : i < end → below t plane i ≡ false → Passed t plane a end (i + 1)
-    Passed-one h e = Passed-more 1 (omega arith) (λ j l. let z : i ≡ i + j = omega arith in subst (λ (k : ℕ). below t plane k ≡ false) z e)
+    -- the end is reached
+    pub Passed-end : end ≤ i → Passed t plane a end (max a end)
+    Passed-end h = elim (dec_le end a) [
+      | yes l ↦ subst (Passed t plane a end) (sym (max-eq_left l)) Passed-none
+      | no l ↦
+          let at_end : i ≡ end = elim (dec_lt end i) [ yes m ↦ absurd (omega (arith, l, p.before_end m)) | no m ↦ omega arith ] in
+          subst (Passed t plane a end) (at_end ∙ sym (max-eq_right (omega (arith, l)))) p
+    ]

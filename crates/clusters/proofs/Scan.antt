@@ -5,7 +5,7 @@ use mathlib.Core.Bool.{true, false}
 use mathlib.Core.List.{List}
 use Prim.Native.Nat.{ℕ, ◌+◌, ◌-◌, ◌*◌, ◌≤◌, ◌<◌}
 use native.Mathlib.Nat.{mul-le-mul_right, add-mul, mul_comm, one-mul, zero-mul}
-use native.Mathlib.Decide.{dec_le, ℕ_discrete}
+use native.Mathlib.Decide.{dec_lt, ℕ_discrete}
 use native.Mathlib.Numerals.{add-one}
 use native.Mathlib.Omega.{arith}
 use lib.Ieee.{Float, lt}
@@ -14,7 +14,7 @@ use Rattle.refusals.specs.declared.Shape.{Shape}
 use Rattle.clusters.specs.declared.Row.{Row}
 use Rattle.clusters.specs.Connected.{below}
 use Rattle.clusters.specs.Clusters.{border, max_f32, row_of, Found, found_before}
-use Rattle.clusters.specs.Walk.{erased, put, Passed, Onward}
+use Rattle.clusters.specs.Walk.{erased, NoneBelow, put, Onward}
 use Rattle.clusters.proofs.Border.{top_row, bottom_row, left_column, right_column, off_border}
 use Rattle.clusters.proofs.Found.{found_none, found_skip, found_new}
 
@@ -57,29 +57,24 @@ module _ (t : Float) (shape : Shape) (pos : 0 < shape.width) (big : lt max_f32 t
     abbrev end : ℕ
     end = start + w - 1
 
-    -- from the row's start to the first sample to find
-    pub row_begins : (f : Found) (i : ℕ) → Passed t f.plane (start + 1) end i → Onward t shape start f i f
-    row_begins f i p = Onward-skip f start i (omega (arith, p.onward)) (λ j x y. elim (dec_le (start + 1) j) [
-      | yes l ↦ inr (p.none j l y)
-      | no l ↦ inl (left_column w h r 0 j (omega arith) pos refl)
-    ])
+    -- over the row's first place, which is on the border
+    pub row_begins : (f : Found) → Onward t shape start f (start + 1) f
+    row_begins f = Onward-skip f start (start + 1) (omega arith) (λ j x y. inl (left_column w h r 0 j (omega arith) pos refl))
 
-    -- a cluster, and on to the next sample to find
-    module _ (f : Found) (i : ℕ) (off : start < i) (in_row : i < end) (low : below t f.plane i ≡ true)
-        (p : List Float) (rs : List ℕ) (row : Row) (ep : p ≡ erased t w f.plane i) (er : row ≡ row_of t w f.plane i) (es : rs ≡ put f.rows f.total row)
-        (j : ℕ) (passed : Passed t p (i + 1) end j) where
-      abbrev g : Found
-      g = record { plane = p; rows = rs; total = f.total + 1 }
-
-      pub row_goes_on : Onward t shape i f j g
+    -- to the next sample to find, and over its cluster
+    module _ (f : Found) (a i : ℕ) (onward : a ≤ i) (none : NoneBelow t f.plane a i) (off : start < i) (in_row : i < end) (low : below t f.plane i ≡ true)
+        (p : List Float) (rs : List ℕ) (row : Row) (ep : p ≡ erased t w f.plane i) (er : row ≡ row_of t w f.plane i) (es : rs ≡ put f.rows f.total row) where
+      pub row_goes_on : Onward t shape a f (i + 1) (record { plane = p; rows = rs; total = f.total + 1 })
       row_goes_on = Onward-trans
+          (Onward-skip f a i onward (λ k x y. inr (none k x y)))
           (Onward-new f i (off_border w h r (i - start) i (omega arith) (omega arith) above under (omega arith) (omega arith)) low p rs row ep er es)
-          (Onward-skip g (i + 1) j passed.onward (λ k x y. inr (passed.none k x y)))
 
     -- to the next row's start
-    pub row_ends : (f : Found) (i : ℕ) → end ≤ i → i ≤ start + w → Onward t shape i f ((r + 1) * w) f
-    row_ends f i l m =
-        Onward-skip f i ((r + 1) * w) (omega (arith, next_row w r)) (λ j x y. inl (right_column w h r (w - 1) j (omega (arith, next_row w r)) (omega arith) (omega arith)))
+    pub row_ends : (f : Found) (a : ℕ) → a ≤ start + w → NoneBelow t f.plane a end → Onward t shape a f ((r + 1) * w) f
+    row_ends f a l none = Onward-skip f a ((r + 1) * w) (omega (arith, next_row w r)) (λ j x y. elim (dec_lt j end) [
+      | yes m ↦ inr (none j x m)
+      | no m ↦ inl (right_column w h r (w - 1) j (omega (arith, next_row w r)) (omega arith) (omega arith))
+    ])
 
   -- ---- the first and the last row
 

@@ -44,11 +44,15 @@ claimed_around t w n p v = claimed t (under_of w n p) (claimed t (above_of w p) 
 abbrev pub erased : Float → ℕ → List Float → ℕ → List Float
 erased t w plane s = tabulate (length plane) (λ i. cond (connected t w plane s i) max_f32 (get_or plane i nan))
 
+-- no sample from place a on and before place r is below the threshold
+abbrev pub NoneBelow : Float → List Float → ℕ → ℕ → Type 0
+NoneBelow threshold plane a r = (j : ℕ) → a ≤ j → j < r → below threshold plane j ≡ false
+
 -- the search for a sample below the threshold has come from place a to place r: not past the end, and past no such sample
 pub record Passed (threshold : Float) (plane : List Float) (a end r : ℕ) : Type 0 where
   pub onward : a ≤ r
   pub before_end : end < r → r ≡ a
-  pub none : (j : ℕ) → a ≤ j → j < r → below threshold plane j ≡ false
+  pub none : NoneBelow threshold plane a r
 
 -- row k of the row slice is written, where there is room for it
 unfoldable pub put : List ℕ → ℕ → Row → List ℕ

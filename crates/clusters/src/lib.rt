@@ -4,7 +4,7 @@
 // waits once, and a cluster that was found is not found again.
 #![tactic(auto)]
 
-ghost use Rattle.std.specs.Prelude.{◌≡◌, true, false, cond, ◌+◌, ◌-◌, ◌*◌, ◌%◌, ◌<◌, ◌≤◌, length};
+ghost use Rattle.std.specs.Prelude.{◌≡◌, true, false, cond, ◌+◌, ◌-◌, ◌*◌, ◌%◌, ◌<◌, ◌≤◌, length, IfNone, IfSome};
 ghost use Rattle.std.specs.Float.Ieee.{lt};
 ghost use Rattle.std.specs.Float.Ieee.Scale.{finite};
 ghost use Rattle.lists.specs.Each.{any};
@@ -12,30 +12,20 @@ ghost use Rattle.refusals.specs.Plane.{bad_plane};
 ghost use Rattle.clusters.specs.Connected.{below};
 ghost use Rattle.clusters.specs.Clusters.{max_f32, row_of, saddle_clusters};
 ghost use Rattle.clusters.specs.Center.{bad_center, center};
-ghost use Rattle.clusters.specs.Walk.{walk, claimed, claimed_around, erased, Passed, put, Onward};
+ghost use Rattle.clusters.specs.Walk.{walk, claimed, claimed_around, erased, NoneBelow, Passed, put, Onward};
 
 use points::Point;
 use refusals::Shape;
 
-// The largest finite f32.
-const MAX: f32 = 340282350000000000000000000000000000000.0;
-
-// The row of a cluster: the sum of its samples' columns, of their rows, and their number.
-#[derive(Clone, Copy)]
+/// The row of a cluster: the sum of its samples' columns, of their rows, and their number.
+#[derive(Clone, Copy, Debug, PartialEq, Eq)]
 pub struct Row {
     pub x: u64,
     pub y: u64,
     pub count: u64,
 }
 
-// A threshold that refusal 4 lets through is from -MAX to MAX. No comparison with a NaN is true.
-pub fn is_finite(threshold: f32) -> bool
-    ensures { result ≡ finite threshold }
-{
-    (-MAX <= threshold) & (threshold <= MAX)
-}
-
-// A sample below the threshold is set to MAX and put on the worklist, on which `pending` samples wait. The answer is how
+// A sample below the threshold is set to f32::MAX and put on the worklist, on which `pending` samples wait. The answer is how
 // many wait then.
 fn claim(mat: &mut [f32], threshold: f32, worklist: &mut [u32], pending: usize, at: usize) -> usize
     requires { (at < length mat.old) × (length mat.old ≤ 16777216) × (pending < length worklist.old) }
@@ -43,7 +33,7 @@ fn claim(mat: &mut [f32], threshold: f32, worklist: &mut [u32], pending: usize, 
     ensures upper_bound { result ≤ pending + 1 }
 {
     if mat[at] < threshold {
-        mat[at] = MAX;
+        mat[at] = f32::MAX;
         worklist[pending] = at as u32;
         return pending + 1;
     }
@@ -72,7 +62,7 @@ fn ahead(p: usize, step: usize, inside: bool) -> usize
     p
 }
 
-// The four neighbours of sample p are claimed. p itself, which is MAX by now, stands for a neighbour outside the plane.
+// The four neighbours of sample p are claimed. p itself, which is f32::MAX by now, stands for a neighbour outside the plane.
 fn claim_around(
     mat: &mut [f32],
     width: usize,
@@ -97,7 +87,7 @@ fn claim_around(
     claim(mat, threshold, worklist, c, under)
 }
 
-// The cluster of `seed`, a sample below the threshold: its samples are set to MAX, and its row is the answer.
+// The cluster of `seed`, a sample below the threshold: its samples are set to f32::MAX, and its row is the answer.
 fn pixel_bfs(
     mat: &mut [f32],
     width: usize,
@@ -131,10 +121,8 @@ fn block_below(mat: &[f32], from: usize, threshold: f32) -> bool
     ensures { result ≡ any 32 (λ j. below threshold mat.now (from + j)) }
 {
     let mut found = false;
-    let mut j = 0;
-    while j < 32 {
-        found = found | (mat[from + j] < threshold);
-        j += 1;
+    for j in 0..32 {
+        found |= mat[from + j] < threshold;
     }
     found
 }
@@ -144,29 +132,26 @@ fn skip_blocks(mat: &[f32], from: usize, end: usize, threshold: f32) -> usize
     requires { (end ≤ length mat.now) × (from ≤ length mat.now) }
     ensures { Passed threshold mat.now from end result }
 {
-    let mut i = from;
-    while i + 32 <= end {
-        if block_below(mat, i, threshold) {
+    for i in (from..end).step_by(32) {
+        if end - i < 32 || block_below(mat, i, threshold) {
             return i;
         }
-        i += 32;
     }
-    i
+    from.max(end)
 }
 
 // The first sample below the threshold, from `from` on and before `end`.
-fn first_below(mat: &[f32], from: usize, end: usize, threshold: f32) -> usize
+fn first_below(mat: &[f32], from: usize, end: usize, threshold: f32) -> Option<usize>
     requires { (end ≤ length mat.now) × (from ≤ length mat.now) }
-    ensures { Passed threshold mat.now from end result × (result < end → below threshold mat.now result ≡ true) }
+    ensures nothing { IfNone result (NoneBelow threshold mat.now from end) }
+    ensures first { IfSome result (λ i. (from ≤ i) × (i < end) × (below threshold mat.now i ≡ true) × NoneBelow threshold mat.now from i) }
 {
-    let mut i = skip_blocks(mat, from, end, threshold);
-    while i < end {
+    for i in skip_blocks(mat, from, end, threshold)..end {
         if mat[i] < threshold {
-            return i;
+            return Some(i);
         }
-        i += 1;
     }
-    i
+    None
 }
 
 // Row k of the row slice is written, where there is room for it.
@@ -202,18 +187,19 @@ fn scan_row(
     let start = row * shape.width;
     let end = start + shape.width - 1;
     let mut total = before;
-    let mut i = first_below(mat, start + 1, end, threshold);
-    while i < end {
+    let mut from = start + 1;
+    while let Some(i) = first_below(mat, from, end, threshold) {
         let cluster = pixel_bfs(mat, shape.width, threshold, worklist, i);
         put_row(rows, total, cluster);
         total += 1;
-        i = first_below(mat, i + 1, end, threshold);
+        from = i + 1;
     }
     total
 }
 
-// The clusters of a plane. Rows are written as far as there is room for them, clustered samples are set to MAX, and the
-// answer is the total.
+/// The clusters of a plane. Rows are written as far as there is room for them, clustered samples are set to f32::MAX, and the
+/// answer is the total.
+#[tactic(auto, using(refusals::proofs::Plane::good_plane))]
 pub fn init_saddle_clusters(
     h_mat: &mut [f32],
     shape: Shape,
@@ -226,10 +212,8 @@ pub fn init_saddle_clusters(
     ensures { record { plane = h_mat.new; rows = rows.new; total = result } ≡ saddle_clusters threshold shape h_mat.old rows.old }
 {
     let mut total = 0;
-    let mut row = 1;
-    while row + 1 < shape.height {
+    for row in 1..shape.height - 1 {
         total = scan_row(h_mat, shape, threshold, worklist, rows, total, row);
-        row += 1;
     }
     total
 }
@@ -237,23 +221,15 @@ pub fn init_saddle_clusters(
 // A whole number below 2^24 is an f32 without loss.
 const EXACT: u64 = 16777216;
 
-// Refusal 15 for a centre.
+/// Refusal 15 for a centre.
+#[tactic(auto, using(std::proofs::lemmas::Bool::Decides::nat_tests), unfolding(crate::specs::Center::bad_center))]
 pub fn bad_center(sum_x: u64, sum_y: u64, count: u64) -> bool
     ensures { result ≡ bad_center sum_x sum_y count }
 {
-    if EXACT <= sum_x {
-        return true;
-    }
-    if EXACT <= sum_y {
-        return true;
-    }
-    if EXACT <= count {
-        return true;
-    }
-    count == 0
+    EXACT <= sum_x || EXACT <= sum_y || EXACT <= count || count == 0
 }
 
-// The centre of a cluster from its row.
+/// The centre of a cluster from its row.
 pub fn cluster_center(sum_x: u64, sum_y: u64, count: u64) -> Point
     requires { bad_center sum_x sum_y count ≡ false }
     ensures { result ≡ center sum_x sum_y count }

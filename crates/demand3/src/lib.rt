@@ -1,24 +1,25 @@
-// Demand 3 said of the code: functions that paint a tag and then read it, alone and in a list of its own, and that read the four starts of
-// a quad; and 02's tickets 3 and 4: one that paints a sheet and reads a quad of it, and one that paints a sheet and reads the list of all
-// its quads. They are no public entries. specs/Said.antt and specs/Sheet.antt say what is proved of them.
+//! Demand 3 said of the code: functions that paint a tag and then read it, alone and in a list of its own, and that read the four starts of
+//! a quad; and 02's tickets 3 and 4: one that paints a sheet and reads a quad of it, and one that paints a sheet and reads the list of all
+//! its quads. They are no public entries. specs/Said.antt and specs/Sheet.antt say what is proved of them.
 #![tactic(auto)]
 
 ghost use Rattle.std.specs.Prelude.{◌<◌};
+ghost use Rattle.refusals.specs.Numbers.{outcome};
 ghost use Rattle.grid.specs.Quads.{tag_count};
 ghost use Rattle.listing.specs.Listing.{listing_of};
 ghost use Rattle.reader.specs.Answer.{paper_reading};
-ghost use Rattle.muosleap.specs.Quads.{paper_listed};
 ghost use Rattle.demand3.specs.Sheet.{SheetThenRead, SheetThenListed};
 ghost use Rattle.demand3.specs.Said.{PaintedThenRead, StartsRead, StartListed};
 
 use grid::Grid;
-use muosleap::quads::Listed;
-use muosleap_paint::painting::Painted;
-use muosleap_paint::sheet::Sheet;
+use muosleap::detector::try_decode_quad;
+use muosleap::quads::try_decode_quads;
+use muosleap_paint::painting::paint_tag;
+use muosleap_paint::sheet::paint_sheet;
 use painter::Print;
 use points::{QUAD_SIZE, Quad};
 use reader::Reading;
-use refusals::Frame;
+use refusals::{Frame, Refusal};
 use tables::Family;
 
 // The readings of the four starts of a quad, start 0 first.
@@ -43,23 +44,15 @@ pub fn paint_then_read(
 ) -> Reading
     ensures { PaintedThenRead plane.old frame family codes.now word print start (paper_reading result) plane.new }
 {
-    let painted = muosleap_paint::painting::paint_tag(
-        plane,
-        frame,
-        family.edge,
-        family.border,
-        word,
-        print,
-    );
-    match painted {
-        Painted::Refused(n) => Reading::Refused(n),
-        Painted::Tag(quad) => muosleap::detector::try_decode_quad(
+    match paint_tag(plane, frame, family.edge, family.border, word, print) {
+        Ok(quad) => try_decode_quad(
             plane,
             frame,
             family,
             codes,
             points::rotate_left(quad, start),
         ),
+        Err(refusal) => Reading::from(refusal),
     }
 }
 
@@ -70,10 +63,10 @@ pub fn read_starts(plane: &[u8], frame: Frame, family: Family, codes: &[u64], qu
     let q1 = points::rotate_left(quad, 1);
     let q2 = points::rotate_left(quad, 2);
     let q3 = points::rotate_left(quad, 3);
-    let s0 = muosleap::detector::try_decode_quad(plane, frame, family, codes, quad);
-    let s1 = muosleap::detector::try_decode_quad(plane, frame, family, codes, q1);
-    let s2 = muosleap::detector::try_decode_quad(plane, frame, family, codes, q2);
-    let s3 = muosleap::detector::try_decode_quad(plane, frame, family, codes, q3);
+    let s0 = try_decode_quad(plane, frame, family, codes, quad);
+    let s1 = try_decode_quad(plane, frame, family, codes, q1);
+    let s2 = try_decode_quad(plane, frame, family, codes, q2);
+    let s3 = try_decode_quad(plane, frame, family, codes, q3);
     Starts { s0, s1, s2, s3 }
 }
 
@@ -89,26 +82,14 @@ pub fn list_start(
     start: u8,
     rows: &mut [u64],
     corners: &mut [f32],
-) -> Listed
+) -> Result<usize, Refusal>
     ensures { StartListed plane.old frame family codes.now word print start rows.old corners.old
-        plane.new (listing_of (paper_listed result) rows.new corners.new) }
+        plane.new (listing_of (outcome result) rows.new corners.new) }
 {
-    let painted = muosleap_paint::painting::paint_tag(
-        plane,
-        frame,
-        family.edge,
-        family.border,
-        word,
-        print,
-    );
-    match painted {
-        Painted::Refused(n) => Listed::Refused(n),
-        Painted::Tag(quad) => {
-            let mut list = [0.0f32; QUAD_SIZE];
-            points::put_quad(&mut list, 0, points::rotate_left(quad, start));
-            muosleap::quads::try_decode_quads(plane, frame, family, codes, &list, rows, corners)
-        }
-    }
+    let quad = paint_tag(plane, frame, family.edge, family.border, word, print)?;
+    let mut list = [0.0; QUAD_SIZE];
+    points::put_quad(&mut list, 0, points::rotate_left(quad, start));
+    try_decode_quads(plane, frame, family, codes, &list, rows, corners)
 }
 
 // Paints a sheet, and reads one start of the quad that stands at a position of it, on the plane as the painter left it. Where the
@@ -128,13 +109,12 @@ pub fn paint_sheet_then_read(
     ensures { SheetThenRead plane.old frame family codes.now grid print quads.old position start
         (paper_reading result) plane.new quads.new }
 {
-    let sheet = muosleap_paint::sheet::paint_sheet(plane, frame, family, codes, grid, print, quads);
-    match sheet {
-        Sheet::Refused(n) => Reading::Refused(n),
-        Sheet::Painted => {
+    match paint_sheet(plane, frame, family, codes, grid, print, quads) {
+        Ok(()) => {
             let quad = points::rotate_left(points::quad_at(quads, position), start);
-            muosleap::detector::try_decode_quad(plane, frame, family, codes, quad)
+            try_decode_quad(plane, frame, family, codes, quad)
         }
+        Err(refusal) => Reading::from(refusal),
     }
 }
 
@@ -150,17 +130,11 @@ pub fn paint_sheet_then_list(
     quads: &mut [f32],
     rows: &mut [u64],
     corners: &mut [f32],
-) -> Listed
+) -> Result<usize, Refusal>
     ensures { SheetThenListed plane.old frame family codes.now grid print quads.old rows.old corners.old
-        plane.new quads.new (listing_of (paper_listed result) rows.new corners.new) }
+        plane.new quads.new (listing_of (outcome result) rows.new corners.new) }
 {
-    let sheet = muosleap_paint::sheet::paint_sheet(plane, frame, family, codes, grid, print, quads);
-    match sheet {
-        Sheet::Refused(n) => Listed::Refused(n),
-        Sheet::Painted => {
-            let n = QUAD_SIZE * (grid.rows * grid.columns);
-            let list = &quads[..n];
-            muosleap::quads::try_decode_quads(plane, frame, family, codes, list, rows, corners)
-        }
-    }
+    paint_sheet(plane, frame, family, codes, grid, print, quads)?;
+    let list = &quads[..QUAD_SIZE * (grid.rows * grid.columns)];
+    try_decode_quads(plane, frame, family, codes, list, rows, corners)
 }

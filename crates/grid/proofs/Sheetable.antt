@@ -18,11 +18,10 @@ use Rattle.tables.proofs.Table.{Within, within, good_table, table_edge, table_bo
 use Rattle.painter.specs.Printable.{bad_print, ends_late, Printable}
 use Rattle.painter.specs.Tag.{side_of}
 use Rattle.painter.specs.declared.Print.{Print}
-use Rattle.painter.proofs.Printable.{good_style}
 use Rattle.grid.specs.Sheet.{tag_size, step_of}
 use Rattle.grid.specs.Quads.{tag_count, position_row, position_column, position_print}
 use Rattle.grid.specs.Refused.{line_size, bad_counts, bad_end, bad_grid}
-use Rattle.grid.specs.Sheetable.{Sheetable, SmallGrid}
+use Rattle.grid.specs.Sheetable.{Sheetable}
 use Rattle.grid.specs.declared.Grid.{Grid}
 use Rattle.grid.proofs.Line.{tag_ends}
 use Rattle.grid.proofs.Place.{row_lt, column_lt}
@@ -93,28 +92,16 @@ module _ {len : ℕ} {frame : Frame} {family : Family} {codes : List ℕ} {grid 
   good : Good frame family (length codes) grid print
   good = Good-grid frame family (length codes) grid print p.grids
 
-  pub few_tags : Counts (length codes) grid
-  few_tags = good.counts
+  -- its end is no large number
+  pub across_small : print.x + line_size family grid print grid.columns ≤ 4096
+  across_small = omega (arith, good.ends.right, (good_frame p.planes).sides.width_le)
 
-  pub small_grid : SmallGrid family grid print
-  small_grid =
-      let t = good_table family codes p.tables in
-      let f = good_frame p.planes in
-      record {
-        edges = t.coded.edges.most;
-        borders = t.borders.most;
-        cells = (good_style print p.styles).small;
-        gaps = good.counts.gaps.most;
-        wide = omega (arith, good.ends.right, f.sides.width_le);
-        high = omega (arith, good.ends.low, f.sides.height_le);
-      }
+  pub down_small : print.y + line_size family grid print grid.rows ≤ 4096
+  down_small = omega (arith, good.ends.low, (good_frame p.planes).sides.height_le)
 
   -- there is room for each quad, and a code for each tag
   pub room : quad_size * tag_count grid ≤ numbers
   room = ltb-false numbers (quad_size * tag_count grid) p.outputs
-
-  pub tags_le : tag_count grid ≤ 1024
-  tags_le = omega (arith, good.counts.enough, (good_table family codes p.tables).coded.count.most)
 
   pub code_known : (position : ℕ) → position < tag_count grid → position < length codes
   code_known position h = omega (arith, good.counts.enough)

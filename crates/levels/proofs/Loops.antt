@@ -1,52 +1,44 @@
 -- The loops over the levels: what each has after i levels, and how one level more changes it. Assumes nothing.
 use mathlib.Core.Path.{◌≡◌, refl, sym, ap, ap₂, ◌∙◌, subst}
+use mathlib.Core.Bool.{Bool, true, false, cond}
 use mathlib.Core.List.{List, [], ◌∷◌, foldl}
 use Prim.Native.Nat.{ℕ, zero, suc, ◌+◌, ◌-◌, ◌*◌, ◌^◌, ◌≤◌, ◌<◌}
-use native.Mathlib.Nat.{pow-suc, mul_assoc, add_comm, not-suc-le-zero, le_of_suc-le-suc}
+use native.Mathlib.Nat.{pow-suc, mul_assoc, not-suc-le-zero}
 use native.Mathlib.Numerals.{add-one}
 use native.Mathlib.Omega.{arith}
+use Rattle.std.specs.List.{count_by}
+use Rattle.std.proofs.lemmas.List.Sums.{sum_by-cons}
+use mir.Val.{bool_byte}
 use lib.Dec.{ltb}
-use lib.ListN.{length, get_or, drop, drop_of_length-le}
+use lib.ListN.{length, get_or}
 use lib.Pow.{pow_mono}
-use lib.Seq.{drop-cons}
-use Rattle.lists.specs.Sum.{sum}
-use Rattle.lists.proofs.Sum.{sum_most, one_if-lt}
+use Rattle.lists.specs.Sum.{sum, one_if}
+use Rattle.lists.proofs.Sum.{sum_first, one_if-lt}
 use Rattle.word.specs.Word.{word}
-use Rattle.levels.specs.Levels.{over_all, above, distance, unsure}
+use Rattle.levels.specs.Levels.{over_all, above, distance, unsure_of}
 use Rattle.word.proofs.Bits.{word-lt, word_ext}
 
--- ---- least and greatest: m, joined with what is left from level i on, is the whole
+-- ---- least and greatest: the first level, joined with all
 
-pub over_first : (f : ℕ → ℕ → ℕ) (l : List ℕ) → 0 < length l → foldl f (get_or l 0 0) (drop 1 l) ≡ over_all f l
+pub over_first : (f : ℕ → ℕ → ℕ) (l : List ℕ) → ((v : ℕ) → f v v ≡ v) → 0 < length l → foldl f (get_or l 0 0) l ≡ over_all f l
 unfolding over_all
-over_first f [] h = absurd (not-suc-le-zero h)
-over_first f (v ∷ vs) h = refl
-
-module _ (f : ℕ → ℕ → ℕ) (l : List ℕ) (i m v : ℕ) where
-  pub over_more : (r : ℕ) → i < length l → r ≡ f m (get_or l i 0) → foldl f m (drop i l) ≡ v → foldl f r (drop (i + 1) l) ≡ v
-  over_more r h e inv =
-      ap₂ (λ (n x : ℕ). foldl f x (drop n l)) (add-one i) e ∙ sym (ap (foldl f m) (drop-cons l i 0 h)) ∙ inv
-
-  pub over_done : length l ≤ i → foldl f m (drop i l) ≡ v → m ≡ v
-  over_done h inv = sym (ap (foldl f m) (drop_of_length-le l h)) ∙ inv
+over_first f [] same h = absurd (not-suc-le-zero h)
+over_first f (v ∷ vs) same h = ap (λ (x : ℕ). foldl f x vs) (same v)
 
 -- ---- the number of unsure levels
 
-pub unsure-lt : (middle band level : ℕ) → unsure middle band level < 2
-unsure-lt middle band level = one_if-lt (ltb (distance level middle) band)
+counted : (p : ℕ → Bool) (l : List ℕ) → count_by p l ≡ sum (length l) (λ k. one_if (p (get_or l k 0)))
+unfolding sum
+counted p [] = refl
+counted p (v ∷ vs) = sum_by-cons (λ x. cond (p x) 1 0) v vs ∙ one (p v) (counted p vs) ∙ sym (sum_first (length vs) (λ k. one_if (p (get_or (v ∷ vs) k 0))))
+  where
+    one : (t : Bool) → count_by p vs ≡ sum (length vs) (λ k. one_if (p (get_or vs k 0))) → cond t 1 0 + count_by p vs ≡ one_if t + sum (length vs) (λ k. one_if (p (get_or vs k 0)))
+    one true e = ap (λ (n : ℕ). 1 + n) e
+    one false e = ap (λ (n : ℕ). 0 + n) e
 
-module _ (middle band : ℕ) (levels : List ℕ) where
-  -- among the first i levels
-  abbrev pub first_unsure : ℕ → ℕ
-  first_unsure i = sum i (λ k. unsure middle band (get_or levels k 0))
-
-  pub unsure-le : (i : ℕ) → first_unsure i ≤ i
-  unsure-le i = omega (arith, sum_most i 1 (λ k. unsure middle band (get_or levels k 0)) (λ k l. le_of_suc-le-suc (unsure-lt middle band (get_or levels k 0))))
-
-  pub unsure_more : (i n r : ℕ) → r ≡ unsure middle band (get_or levels i 0) → n ≡ first_unsure i → n + r ≡ first_unsure (i + 1)
-  unfolding sum
-  unsure_more i n r e inv =
-      add_comm n r ∙ ap₂ (λ (x y : ℕ). x + y) e inv ∙ ap (λ (x : ℕ). first_unsure x) (sym (add-one i))
+pub unsure_counted : (middle band : ℕ) (l : List ℕ) → count_by (λ level. ltb (distance level middle) band) l ≡ unsure_of middle band l
+unfolding unsure_of
+unsure_counted middle band l = counted (λ level. ltb (distance level middle) band) l
 
 -- ---- the word
 
@@ -57,6 +49,11 @@ word_low zero f = omega arith
 word_low (suc n) f =
     let e : f (suc n) * 2 ^ suc n ≡ f (suc n) * 2 ^ n * 2 = ap (λ (x : ℕ). f (suc n) * x) (pow-suc 2 n) ∙ sym (mul_assoc (f (suc n)) (2 ^ n) 2) in
     omega (arith, word_low n f)
+
+-- a test as a number
+pub byte_one : (t : Bool) → bool_byte t ≡ one_if t
+byte_one true = refl
+byte_one false = refl
 
 pub above-lt : (middle level : ℕ) → above middle level < 2
 above-lt middle level = one_if-lt (ltb middle level)

@@ -1,6 +1,6 @@
 -- The tests of one code, in the order in which the code of the check makes them. Assumes nothing.
 use mathlib.Core.Path.{◌≡◌, refl, sym, ap, ◌∙◌}
-use mathlib.Core.Bool.{Bool, true, false, ◌&&◌}
+use mathlib.Core.Bool.{Bool, true, false, ◌&&◌, and_comm}
 use mathlib.Core.List.{List}
 use Prim.Native.Nat.{ℕ, zero, suc, ◌-◌, ◌*◌, ◌%◌, ◌^◌, ◌≤◌, ◌<◌}
 use native.Mathlib.Nat.{div-eq_of_lt}
@@ -8,8 +8,11 @@ use native.Mathlib.Omega.{arith}
 use borrow.Author.Tests.{le-leb, lt-leb}
 use lib.Bits.{differ}
 use lib.Dec.{leb}
-use lib.ListN.{length, get_or}
+use lib.ListN.{length, get_or, take}
 use lib.Pow.{pow_pos}
+use native.Mathlib.Numerals.{add-one}
+use Rattle.std.specs.List.{list_all}
+use Rattle.std.proofs.lemmas.List.Folds.{list_all_more}
 use Rattle.lists.specs.Sum.{sum}
 use Rattle.lists.proofs.Sum.{sum_ext}
 use Rattle.word.specs.Word.{bit, differing, differing_in}
@@ -17,8 +20,7 @@ use Rattle.word.proofs.Differing.{in_square, differing-le}
 use Rattle.tables.proofs.Table.{Codes}
 use Rattle.lists.specs.Each.{each}
 use Rattle.likeness.specs.Likeness.{ones, mixed, apart_in_turns, apart_from_itself, passes_at}
-use Rattle.likeness.specs.Turned.{FourTurns, far_from, far_self}
-use Rattle.likeness.specs.declared.Turns.{Turns}
+use Rattle.likeness.specs.Turned.{four_turns, far_from, far_self}
 use Rattle.lists.proofs.Each.{each_ext}
 use Rattle.likeness.proofs.Turned.{far_from_is, far_self_is}
 
@@ -51,23 +53,36 @@ module _ (e a : ℕ) (edge : e ≤ 8) (small : a < 2 ^ (e * e)) where
 
 -- ---- the code at position n of a table
 
-module _ (e t : ℕ) (codes : List ℕ) (n : ℕ) (table : Codes e t codes) (inside : n < length codes) (w : Turns) (four : FourTurns e (get_or codes n 0) w) where
-  pub not_mixed : mixed e t (get_or codes n 0) ≡ false → false ≡ passes_at e t codes n
+-- a test of the codes before a position is that of their list
+all_before : (ok : ℕ → Bool) (codes : List ℕ) (n : ℕ) → n ≤ length codes → list_all ok (take n codes) ≡ each n (λ j. ok (get_or codes j 0))
+unfolding each
+all_before ok codes zero h = refl
+all_before ok codes (suc n) h =
+    ap (λ (k : ℕ). list_all ok (take k codes)) (sym (add-one n)) ∙ list_all_more ok codes n 0 (omega arith)
+    ∙ ap (λ (x : Bool). x && ok (get_or codes n 0)) (all_before ok codes n (omega arith)) ∙ and_comm (each n (λ j. ok (get_or codes j 0))) (ok (get_or codes n 0))
+
+module _ (e t : ℕ) (codes : List ℕ) (n : ℕ) (table : Codes e t codes) (inside : n < length codes) where
+  abbrev code : ℕ
+  code = get_or codes n 0
+
+  earlier : list_all (far_from (2 * t - 1) (four_turns e code)) (take n codes) ≡ each n (λ j. apart_in_turns e t code (get_or codes j 0))
+  earlier =
+      all_before (far_from (2 * t - 1) (four_turns e code)) codes n (omega arith)
+      ∙ each_ext n (λ j. far_from (2 * t - 1) (four_turns e code) (get_or codes j 0)) (λ j. apart_in_turns e t code (get_or codes j 0)) (λ j l.
+      far_from_is e t code table.edges.most (table.small n inside) (get_or codes j 0) (table.small j (omega arith)))
+
+  pub not_mixed : mixed e t code ≡ false → false ≡ passes_at e t codes n
   unfolding passes_at
   not_mixed m = simp m
 
-  own : far_self (2 * t - 1) w ≡ apart_from_itself e t (get_or codes n 0)
-  own = far_self_is e t (get_or codes n 0) table.edges.most (table.small n inside) w four
+  module _ (ts : List ℕ) (four : ts ≡ four_turns e code) (m : mixed e t code ≡ true) where
+    own : far_self (2 * t - 1) ts ≡ apart_from_itself e t code
+    own = rw four (far_self_is e t code table.edges.most (table.small n inside))
 
-  pub near_itself : mixed e t (get_or codes n 0) ≡ true → far_self (2 * t - 1) w ≡ false → false ≡ passes_at e t codes n
-  unfolding passes_at
-  near_itself m f = simp (m, sym own ∙ f)
+    pub near_itself : far_self (2 * t - 1) ts ≡ false → false ≡ passes_at e t codes n
+    unfolding passes_at
+    near_itself f = simp (m, sym own ∙ f)
 
-  earlier : each n (λ j. far_from (2 * t - 1) w (get_or codes j 0)) ≡ each n (λ j. apart_in_turns e t (get_or codes n 0) (get_or codes j 0))
-  earlier =
-      each_ext n (λ j. far_from (2 * t - 1) w (get_or codes j 0)) (λ j. apart_in_turns e t (get_or codes n 0) (get_or codes j 0)) (λ j l.
-      far_from_is e t (get_or codes n 0) table.edges.most (table.small n inside) w four (get_or codes j 0) (table.small j (omega arith)))
-
-  pub tested : (r : Bool) → mixed e t (get_or codes n 0) ≡ true → far_self (2 * t - 1) w ≡ true → r ≡ each n (λ j. far_from (2 * t - 1) w (get_or codes j 0)) → r ≡ passes_at e t codes n
-  unfolding passes_at
-  tested r m f q = simp (m, sym own ∙ f) (q ∙ earlier)
+    pub tested : (r : Bool) → far_self (2 * t - 1) ts ≡ true → r ≡ list_all (far_from (2 * t - 1) ts) (take n codes) → r ≡ passes_at e t codes n
+    unfolding passes_at
+    tested r f q = simp (m, sym own ∙ f) (q ∙ rw four earlier)

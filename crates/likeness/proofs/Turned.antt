@@ -1,19 +1,18 @@
 -- Comparing a code's four turns with another code as it is compares them in any turns. Assumes nothing.
-use mathlib.Core.Path.{◌≡◌, refl, sym, ap, ◌∙◌, subst, subst₂}
+use mathlib.Core.Path.{◌≡◌, refl, sym, ap, ◌∙◌, subst}
 use mathlib.Core.Bool.{Bool, true, false, ◌&&◌, ◌||◌}
 use Prim.Native.Nat.{ℕ, zero, suc, ◌-◌, ◌*◌, ◌^◌, ◌≤◌, ◌<◌}
 use native.Mathlib.Nat.{not-suc-le-zero}
 use native.Mathlib.Omega.{arith}
 use borrow.Author.Tests.{le-leb, leb-true, eqb-false, ne_eqb}
-use lib.Dec.{leb, eqb, lit<}
+use lib.Dec.{eqb, lit<}
 use Rattle.lists.proofs.Bools.{same_test, and_left, and_right}
 use Rattle.word.specs.Word.{turns, differing}
 use Rattle.word.proofs.Differing.{align, turned_alike, differing_comm}
 use Rattle.word.proofs.Turn.{turns-lt, turns_four, turns-add}
 use Rattle.lists.specs.Each.{each}
 use Rattle.likeness.specs.Likeness.{apart, apart_in_turns, apart_from_itself}
-use Rattle.likeness.specs.Turned.{FourTurns, far_from, far_self}
-use Rattle.likeness.specs.declared.Turns.{Turns}
+use Rattle.likeness.specs.Turned.{four_turns, differ_in, far_from, far_self}
 use Rattle.lists.proofs.Each.{each_at, each_of}
 
 -- the four numbers of turns
@@ -23,9 +22,6 @@ by_turn P p0 p1 p2 p3 (suc zero) h = p1
 by_turn P p0 p1 p2 p3 (suc (suc zero)) h = p2
 by_turn P p0 p1 p2 p3 (suc (suc (suc zero))) h = p3
 by_turn P p0 p1 p2 p3 (suc (suc (suc (suc r)))) h = absurd (omega arith)
-
-four_true : (a b c d : Bool) → a ≡ true → b ≡ true → c ≡ true → d ≡ true → a && b && c && d ≡ true
-four_true a b c d p q r s = simp (p, q, r, s)
 
 apart-le : (t a b : ℕ) → apart t a b ≡ true → 2 * t - 1 ≤ differing a b
 unfolding apart
@@ -81,55 +77,50 @@ from_own e t a edge small d₁ d₂ =
 
 -- ---- what the code compares is enough
 
-module _ (e t a : ℕ) (edge : e ≤ 8) (small : a < 2 ^ (e * e)) (w : Turns) (four : FourTurns e a w) where
-  -- the word of the struct at each turn
-  at_turn : (P : ℕ → Type 0) → P w.w0 → P w.w1 → P w.w2 → P w.w3 → (r : ℕ) → r < 4 → P (turns e r a)
+module _ (e t a : ℕ) (edge : e ≤ 8) (small : a < 2 ^ (e * e)) where
+  pub far_from_is : (b : ℕ) → b < 2 ^ (e * e) → far_from (2 * t - 1) (four_turns e a) b ≡ apart_in_turns e t a b
   unfolding turns
-  at_turn P p0 p1 p2 p3 =
-      by_turn (λ (r : ℕ). P (turns e r a)) (subst P four.none p0) (subst P four.one p1) (subst P four.two p2) (subst P four.three p3)
-
-  pub far_from_is : (b : ℕ) → b < 2 ^ (e * e) → far_from (2 * t - 1) w b ≡ apart_in_turns e t a b
-  unfolding far_from turns
-  far_from_is b hb = same_test (far_from (2 * t - 1) w b) (apart_in_turns e t a b) all some
+  far_from_is b hb = same_test (far_from (2 * t - 1) (four_turns e a) b) (apart_in_turns e t a b) every some
     where
       test : ℕ → Bool
-      test x = leb (2 * t - 1) (differing x b)
+      test r = differ_in (2 * t - 1) b (turns e r a)
 
-      all : far_from (2 * t - 1) w b ≡ true → apart_in_turns e t a b ≡ true
-      all h =
-          let h₃ = and_left (test w.w0 && test w.w1 && test w.w2) (test w.w3) h in
-          let h₂ = and_left (test w.w0 && test w.w1) (test w.w2) h₃ in
+      far : far_from (2 * t - 1) (four_turns e a) b ≡ true → (r : ℕ) → r < 4 → test r ≡ true
+      far h =
+          let h₁ = and_right (test 0) (test 1 && (test 2 && (test 3 && true))) h in
+          let h₂ = and_right (test 1) (test 2 && (test 3 && true)) h₁ in
+          let h₃ = and_right (test 2) (test 3 && true) h₂ in
+          by_turn (λ (r : ℕ). test r ≡ true) (and_left (test 0) (test 1 && (test 2 && (test 3 && true))) h)
+          (and_left (test 1) (test 2 && (test 3 && true)) h₁) (and_left (test 2) (test 3 && true) h₂) (and_left (test 3) true h₃)
+
+      every : far_from (2 * t - 1) (four_turns e a) b ≡ true → apart_in_turns e t a b ≡ true
+      every h =
           in_turns_of e t a b (λ p q hp hq.
           let g = align e edge p q hp hq in
-          subst (λ (d : ℕ). 2 * t - 1 ≤ d) (sym (g.same a b small hb))
-          (leb-true (2 * t - 1) (differing (turns e g.by a) b)
-          (at_turn (λ (x : ℕ). test x ≡ true) (and_left (test w.w0) (test w.w1) h₂) (and_right (test w.w0) (test w.w1) h₂) (and_right (test w.w0 && test w.w1) (test w.w2) h₃)
-          (and_right (test w.w0 && test w.w1 && test w.w2) (test w.w3) h) g.by g.by_lt)))
+          subst (λ (d : ℕ). 2 * t - 1 ≤ d) (sym (g.same a b small hb)) (leb-true (2 * t - 1) (differing (turns e g.by a) b) (far h g.by g.by_lt)))
 
-      one : (h : apart_in_turns e t a b ≡ true) (x r : ℕ) → r < 4 → x ≡ turns e r a → test x ≡ true
-      one h x r l q = le-leb (2 * t - 1) (differing x b) (subst (λ (y : ℕ). 2 * t - 1 ≤ differing y b) (sym q) (in_turns_at e t a b h r 0 l (lit< tt)))
-
-      some : apart_in_turns e t a b ≡ true → far_from (2 * t - 1) w b ≡ true
+      some : apart_in_turns e t a b ≡ true → far_from (2 * t - 1) (four_turns e a) b ≡ true
       some h =
-          four_true (test w.w0) (test w.w1) (test w.w2) (test w.w3) (one h w.w0 0 (lit< tt) four.none) (one h w.w1 1 (lit< tt) four.one) (one h w.w2 2 (lit< tt) four.two) (one h w.w3 3 (lit< tt) four.three)
+          let one : (r : ℕ) → r < 4 → test r ≡ true = λ r l. le-leb (2 * t - 1) (differing (turns e r a) b) (in_turns_at e t a b h r 0 l (lit< tt)) in
+          simp (one 0 (lit< tt), one 1 (lit< tt), one 2 (lit< tt), one 3 (lit< tt))
 
-  pub far_self_is : far_self (2 * t - 1) w ≡ apart_from_itself e t a
-  unfolding far_self turns
-  far_self_is = same_test (far_self (2 * t - 1) w) (apart_from_itself e t a) all some
+  pub far_self_is : far_self (2 * t - 1) (four_turns e a) ≡ apart_from_itself e t a
+  unfolding turns
+  far_self_is = same_test (far_self (2 * t - 1) (four_turns e a)) (apart_from_itself e t a) every some
     where
       test : ℕ → Bool
-      test x = leb (2 * t - 1) (differing w.w0 x)
+      test x = differ_in (2 * t - 1) x a
 
-      all : far_self (2 * t - 1) w ≡ true → apart_from_itself e t a ≡ true
-      all h =
-          let d₁ : 2 * t - 1 ≤ differing a (turns e 1 a) = subst₂ (λ (x y : ℕ). 2 * t - 1 ≤ differing x y) four.none four.one (leb-true (2 * t - 1) (differing w.w0 w.w1) (and_left (test w.w1) (test w.w2) h)) in
-          let d₂ : 2 * t - 1 ≤ differing a (turns e 2 a) = subst₂ (λ (x y : ℕ). 2 * t - 1 ≤ differing x y) four.none four.two (leb-true (2 * t - 1) (differing w.w0 w.w2) (and_right (test w.w1) (test w.w2) h)) in
+      every : far_self (2 * t - 1) (four_turns e a) ≡ true → apart_from_itself e t a ≡ true
+      every h =
+          let d₁ = leb-true (2 * t - 1) (differing a (turns e 1 a)) (and_left (test (turns e 1 a)) (test (turns e 2 a)) h) in
+          let d₂ = leb-true (2 * t - 1) (differing a (turns e 2 a)) (and_right (test (turns e 1 a)) (test (turns e 2 a)) h) in
           from_itself_of e t a (λ p q hp hq ne.
           let g = align e edge p q hp hq in
           subst (λ (d : ℕ). 2 * t - 1 ≤ d) (sym (g.same a a small small)) (from_own e t a edge small d₁ d₂ g.by g.by_lt (g.by_pos ne)))
 
-      some : apart_from_itself e t a ≡ true → far_self (2 * t - 1) w ≡ true
+      some : apart_from_itself e t a ≡ true → far_self (2 * t - 1) (four_turns e a) ≡ true
       some h =
-          let one : (x r : ℕ) → r < 4 → 0 < r → x ≡ turns e r a → test x ≡ true = λ x r l pos q.
-          le-leb (2 * t - 1) (differing w.w0 x) (subst₂ (λ (y z : ℕ). 2 * t - 1 ≤ differing y z) (sym four.none) (sym q) (from_itself_at e t a h 0 r (lit< tt) l (λ z. omega arith))) in
-          simp (one w.w1 1 (lit< tt) (lit< tt) four.one, one w.w2 2 (lit< tt) (lit< tt) four.two)
+          let one : (r : ℕ) → r < 4 → 0 < r → test (turns e r a) ≡ true = λ r l pos.
+          le-leb (2 * t - 1) (differing a (turns e r a)) (from_itself_at e t a h 0 r (lit< tt) l (λ z. omega arith)) in
+          simp (one 1 (lit< tt) (lit< tt), one 2 (lit< tt) (lit< tt))

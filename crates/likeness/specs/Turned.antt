@@ -1,19 +1,20 @@
 -- What the code of the check compares: one code in its four turns. Assumes nothing.
-use Rattle.std.specs.Prelude.{ℕ, ◌≡◌, Bool, ◌&&◌, leb}
+use Rattle.std.specs.Prelude.{ℕ, Bool, ◌&&◌, List, [], ◌∷◌, leb, get_or}
+use Rattle.std.specs.List.{list_all}
 use Rattle.word.specs.Word.{turns, differing}
-use Rattle.likeness.specs.declared.Turns.{Turns}
 
-pub record FourTurns (edge code : ℕ) (t : Turns) : Type 0 where
-  pub none : t.w0 ≡ code
-  pub one : t.w1 ≡ turns edge 1 code
-  pub two : t.w2 ≡ turns edge 2 code
-  pub three : t.w3 ≡ turns edge 3 code
+-- a code, and the code turned once, twice and three times
+abbrev pub four_turns : ℕ → ℕ → List ℕ
+four_turns edge code = code ∷ turns edge 1 code ∷ turns edge 2 code ∷ turns edge 3 code ∷ []
+
+-- two words differ in at least `least` bits
+abbrev pub differ_in : ℕ → ℕ → ℕ → Bool
+differ_in least other turned = leb least (differing turned other)
 
 -- no turn differs from other in fewer than `least` bits
-unfoldable pub far_from : ℕ → Turns → ℕ → Bool
-far_from least t other =
-    leb least (differing t.w0 other) && leb least (differing t.w1 other) && leb least (differing t.w2 other) && leb least (differing t.w3 other)
+abbrev pub far_from : ℕ → List ℕ → ℕ → Bool
+far_from least ts other = list_all (differ_in least other) ts
 
 -- the code differs from its first and second turn in at least `least` bits
-unfoldable pub far_self : ℕ → Turns → Bool
-far_self least t = leb least (differing t.w0 t.w1) && leb least (differing t.w0 t.w2)
+abbrev pub far_self : ℕ → List ℕ → Bool
+far_self least ts = differ_in least (get_or ts 1 0) (get_or ts 0 0) && differ_in least (get_or ts 2 0) (get_or ts 0 0)

@@ -1,12 +1,9 @@
-// List of quads to rows: each quad of a list is read by itself, and those that give the same id are refused together.
+//! List of quads to rows: each quad of a list is read by itself, and those that give the same id are refused together.
 #![tactic(auto)]
 
 ghost use Rattle.std.specs.Prelude.{◌≡◌, false, [], ◌∷◌, ◌+◌, ◌*◌, ◌≤◌, ◌<◌, length, get_or};
 ghost use Rattle.std.proofs.lemmas.List.Edits.{sets};
 ghost use Rattle.refusals.specs.Outcome.{accepted};
-ghost use Rattle.refusals.specs.Pixels.{bad_frame};
-ghost use Rattle.tables.specs.Table.{bad_table};
-ghost use Rattle.tag_families.specs.Families.{family_of, codes_of};
 ghost use Rattle.reader.specs.Answer.{paper_reading};
 ghost use Rattle.points.specs.Numbers.{quad_size};
 ghost use Rattle.listing.specs.Listing.{row_size, bad_list, row_of, corners_of, listing_of, listing};
@@ -14,36 +11,31 @@ ghost use Rattle.listing.specs.Steps.{most_ids, Countable, counted, repeated_row
 
 use points::{Point, QUAD_SIZE, Quad};
 use reader::Reading;
-use refusals::Frame;
-use tables::Family;
-use tag_families::codes::CODES;
+use refusals::Picture;
+use tables::checked::Table;
 
-// The numbers of a row, and the most quads of a list.
+/// The numbers of a row: refusal (0 where there is none), id, turn and differing modules.
 pub const ROW_SIZE: usize = 4;
 
+/// The most quads of a list.
 pub const MOST_QUADS: usize = 1024;
 
-// The most ids: a table has at most so many codes.
+/// The most ids: a table has at most so many codes.
 pub const MOST_IDS: usize = 1024;
 
-// Refusal 16, of the lengths of the quad list and the two outputs.
+/// Refusal 16, of the lengths of the quad list and the two outputs.
+#[tactic(auto, unfolding(crate::specs::Listing::bad_list))]
 pub fn bad_list(quads: usize, rows: usize, corners: usize) -> bool
     ensures { result ≡ bad_list quads rows corners }
 {
     let count = quads / QUAD_SIZE;
-    if quads % QUAD_SIZE != 0 {
-        return true;
-    }
-    if MOST_QUADS < count {
-        return true;
-    }
-    if rows < ROW_SIZE * count {
-        return true;
-    }
-    corners < QUAD_SIZE * count
+    quads % QUAD_SIZE != 0
+        || MOST_QUADS < count
+        || rows < ROW_SIZE * count
+        || corners < QUAD_SIZE * count
 }
 
-// The four numbers of row q.
+/// The four numbers of row q.
 fn put_numbers(rows: &mut [u64], q: usize, refusal: u8, id: usize, turn: u8, differing: u8)
     requires { row_size * q + row_size ≤ length rows.old }
     ensures { rows.new ≡ sets rows.old (row_size * q) (refusal ∷ id ∷ turn ∷ differing ∷ []) }
@@ -55,7 +47,7 @@ fn put_numbers(rows: &mut [u64], q: usize, refusal: u8, id: usize, turn: u8, dif
     rows[at + 3] = differing as u64;
 }
 
-// The row of a quad's reading.
+/// The row of a quad's reading.
 pub fn put_row(rows: &mut [u64], q: usize, reading: Reading)
     requires { row_size * q + row_size ≤ length rows.old }
     ensures { rows.new ≡ sets rows.old (row_size * q) (row_of (paper_reading reading)) }
@@ -65,24 +57,19 @@ pub fn put_row(rows: &mut [u64], q: usize, reading: Reading)
             id,
             turn,
             differing,
-            corners: _,
+            ..
         } => put_numbers(rows, q, 0, id, turn, differing),
-        Reading::Refused(n) => put_numbers(rows, q, n, 0, 0, 0),
+        Reading::Refused(number) => put_numbers(rows, q, number, 0, 0, 0),
     }
 }
 
-// The corner numbers of a quad's reading.
+/// The corner numbers of a quad's reading.
 pub fn put_corners(corners: &mut [f32], q: usize, reading: Reading)
     requires { quad_size * q + quad_size ≤ length corners.old }
     ensures { corners.new ≡ sets corners.old (quad_size * q) (corners_of (paper_reading reading)) }
 {
     match reading {
-        Reading::Tag {
-            id: _,
-            turn: _,
-            differing: _,
-            corners: quad,
-        } => points::put_quad(corners, q, quad),
+        Reading::Tag { corners: quad, .. } => points::put_quad(corners, q, quad),
         Reading::Refused(_) => {
             let zero = Point { x: 0.0, y: 0.0 };
             let none = Quad {
@@ -96,36 +83,27 @@ pub fn put_corners(corners: &mut [f32], q: usize, reading: Reading)
     }
 }
 
-// Counts the id of a reading, if it gives one.
+/// Counts the id of a reading, if it gives one.
 fn count_id(times: &mut [u16; MOST_IDS], reading: Reading)
     requires { Countable times.old (paper_reading reading) }
     ensures { times.new ≡ counted times.old (paper_reading reading) }
 {
-    match reading {
-        Reading::Tag {
-            id,
-            turn: _,
-            differing: _,
-            corners: _,
-        } => times[id] += 1,
-        Reading::Refused(_) => {}
+    if let Reading::Tag { id, .. } = reading {
+        times[id] += 1;
     }
 }
 
-// Whether row q is that of a tag whose id was given more than once.
+/// Whether row q is that of a tag whose id was given more than once.
 fn is_repeated(rows: &[u64], times: &[u16; MOST_IDS], q: usize) -> bool
     requires { (row_size * q + row_size ≤ length rows.now) × (get_or rows.now (row_size * q + 1) 0 < most_ids) }
     ensures { result ≡ repeated_row rows.now times.now q }
 {
     let at = ROW_SIZE * q;
-    if rows[at] != 0 {
-        return false;
-    }
     let id = rows[at + 1] as usize;
-    1 < times[id]
+    rows[at] == 0 && 1 < times[id]
 }
 
-// Refuses row q by 18 where its id was given more than once.
+/// Refuses row q by 18 where its id was given more than once.
 fn refuse_repeated(rows: &mut [u64], corners: &mut [f32], times: &[u16; MOST_IDS], q: usize)
     requires { (row_size * q + row_size ≤ length rows.old) × (quad_size * q + quad_size ≤ length corners.old) × (get_or rows.old (row_size * q + 1) 0 < most_ids) }
     ensures { LookedAt rows.old corners.old times.now q rows.new corners.new }
@@ -136,55 +114,30 @@ fn refuse_repeated(rows: &mut [u64], corners: &mut [f32], times: &[u16; MOST_IDS
     }
 }
 
-// The readings of a list, on a plane, with a table and for lengths that refusals 1, 6 and 16 let through: how many they are. The first
-// pass reads each quad and counts its id, the second one refuses the rows of ids that were given more than once.
+/// The readings of a list for lengths that refusal 16 lets through: how many they are. The first pass reads each quad and counts its id, the
+/// second one refuses the rows of ids that were given more than once.
 pub fn try_decode_quads(
-    plane: &[u8],
-    frame: Frame,
-    family: Family,
-    codes: &[u64],
+    picture: &Picture,
+    table: &Table,
     quads: &[f32],
     rows: &mut [u64],
     corners: &mut [f32],
 ) -> usize
-    requires { (bad_frame (length plane.now) frame ≡ false) × (bad_table family codes.now ≡ false) × (bad_list (length quads.now) (length rows.old) (length corners.old) ≡ false) }
+    requires { bad_list (length quads.now) (length rows.old) (length corners.old) ≡ false }
     ensures { listing_of (accepted result) rows.new corners.new
-        ≡ listing plane.now frame family codes.now quads.now rows.old corners.old }
+        ≡ listing picture.now.bytes.now picture.now.frame table.now.family table.now.codes.now quads.now rows.old corners.old }
 {
     let count = quads.len() / QUAD_SIZE;
     let mut times = [0u16; MOST_IDS];
-    let mut q = 0;
-    while q < count {
+    for q in 0..count {
         let quad = points::quad_at(quads, q);
-        let reading = reader::try_decode_quad(plane, frame, family, codes, quad);
+        let reading = reader::try_decode_quad(picture, table, quad);
         count_id(&mut times, reading);
         put_row(rows, q, reading);
         put_corners(corners, q, reading);
-        q += 1;
     }
-    let mut p = 0;
-    while p < count {
+    for p in 0..count {
         refuse_repeated(rows, corners, &times, p);
-        p += 1;
     }
     count
-}
-
-// The same by family number, over the constant tables.
-pub fn try_decode_quads_in(
-    plane: &[u8],
-    frame: Frame,
-    family: u8,
-    quads: &[f32],
-    rows: &mut [u64],
-    corners: &mut [f32],
-) -> usize
-    requires { (bad_frame (length plane.now) frame ≡ false) × (family < 5) × (bad_list (length quads.now) (length rows.old) (length corners.old) ≡ false) }
-    ensures { listing_of (accepted result) rows.new corners.new
-        ≡ listing plane.now frame (family_of family) (codes_of family) quads.now rows.old corners.old }
-{
-    let table = tag_families::family(family);
-    let all = CODES;
-    let codes = tag_families::codes_of(family, &all);
-    try_decode_quads(plane, frame, table, codes, quads, rows, corners)
 }

@@ -1,1 +1,2 @@
 pub mod Said
+pub mod Zipped

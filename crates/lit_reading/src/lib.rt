@@ -1,26 +1,30 @@
-// Ticket 8 of 02 said of the code: functions that paint a tag, or a sheet, work out whether its samples are lit well enough in a picture that
-// they are lent, and read them there. They are no public entries. specs/Said.antt says what is proved of them.
+//! Ticket 8 of 02 said of the code: functions that paint a tag, or a sheet, work out whether its samples are lit well enough in a picture that
+//! they are lent, and read them there. They are no public entries. specs/Said.antt says what is proved of them.
 #![tactic(auto)]
 
-ghost use Rattle.std.specs.Prelude.{◌≡◌, ◌<◌, length};
+ghost use Rattle.std.specs.Prelude.{◌≡◌, ◌<◌, false, length, take};
 ghost use Rattle.lists.specs.Each.{each};
+ghost use Rattle.refusals.specs.Outcome.{refused};
+ghost use Rattle.refusals.specs.Numbers.{number_of};
 ghost use Rattle.levels.specs.Levels.{middle_of};
+ghost use Rattle.places.specs.Place.{axes_of};
 ghost use Rattle.grid.specs.Quads.{tag_count};
+ghost use Rattle.reader.specs.Reading.{samples, levels_of};
 ghost use Rattle.reader.specs.Answer.{paper_reading};
 ghost use Rattle.paper.specs.Light.{clears, clears_at, lit_levels, is_lit};
 ghost use Rattle.lit_reading.specs.Said.{LitThenRead, SheetLitThenRead};
 ghost use Rattle.lit_reading.specs.Sampleable.{Sampleable, PictureRead};
 
 use grid::Grid;
-use muosleap_paint::painting::{Painted, paint_tag};
-use muosleap_paint::sheet::{Sheet, paint_sheet};
+use muosleap_paint::painting::paint_tag;
+use muosleap_paint::sheet::paint_sheet;
 use painter::Print;
 use points::Quad;
 use reader::Reading;
-use refusals::Frame;
+use refusals::{Frame, Picture, Refusal};
 use tables::Family;
 
-// A reading of a picture, and whether the painted tag's samples are lit there as ticket 8 asks.
+/// A reading of a picture, and whether the painted tag's samples are lit there as ticket 8 asks.
 #[derive(Clone, Copy)]
 pub struct LitReading {
     pub lit: bool,
@@ -32,9 +36,10 @@ fn level_clears(middle: u8, painted_light: bool, level: u8) -> bool
     ensures { result ≡ clears middle painted_light level }
 {
     if painted_light {
-        return middle as u32 + 10 <= level as u32;
+        u32::from(middle) + 10 <= u32::from(level)
+    } else {
+        u32::from(level) + 10 <= u32::from(middle)
     }
-    level as u32 + 10 <= middle as u32
 }
 
 // Every level clears the middle so; `painted` is what was painted at each.
@@ -42,51 +47,45 @@ fn all_clear(middle: u8, light: u8, painted: &[u8], levels: &[u8]) -> bool
     requires { length painted.now ≡ length levels.now }
     ensures { result ≡ each (length levels.now) (clears_at middle light painted.now levels.now) }
 {
-    let mut clear = true;
-    let mut k = 0;
-    while k < levels.len() {
-        clear = level_clears(middle, painted[k] == light, levels[k]) & clear;
-        k += 1;
-    }
-    clear
+    painted.iter().zip(levels).all(|(&shown, &level)| level_clears(middle, shown == light, level))
 }
 
 // They clear their own middle, and the greatest and the least of them are at least 50 apart.
+#[tactic(auto, using(levels::proofs::Extremes::least_le_greatest), unfolding(paper::specs::Light::lit_levels))]
 fn levels_lit(light: u8, painted: &[u8], levels: &[u8]) -> bool
     requires { (0 < length levels.now) × (length painted.now ≡ length levels.now) }
     ensures { result ≡ lit_levels (middle_of levels.now) light painted.now levels.now }
 {
     let range = levels::range_of(levels);
     let middle = levels::middle_of(range.least, range.greatest);
-    (50 <= range.greatest - range.least) & all_clear(middle, light, painted, levels)
+    50 <= range.greatest - range.least && all_clear(middle, light, painted, levels)
 }
 
-// Whether the samples of a quad are lit well enough in a picture, by what the painted plane shows at them.
-fn is_lit(
-    shown: &[u8],
-    frame: Frame,
-    light: u8,
-    family: Family,
-    quad: Quad,
-    picture: &[u8],
-    seen: Frame,
-) -> bool
-    requires { Sampleable shown.now frame family quad × Sampleable picture.now seen family quad }
-    ensures { result ≡ is_lit shown.now frame light family quad picture.now seen }
+// The levels of a quad's samples, from the first on.
+fn quad_levels(picture: &Picture, family: Family, quad: Quad) -> [u8; 64]
+    requires { Sampleable picture.now.bytes.now picture.now.frame family quad }
+    ensures { take (samples family) result ≡ levels_of picture.now.bytes.now picture.now.frame family (axes_of quad) }
 {
-    let axes = places::axes_of(quad);
-    let mut painted = [0u8; 64];
-    let mut levels = [0u8; 64];
-    reader::sample_levels(shown, frame, family, axes, &mut painted);
-    reader::sample_levels(picture, seen, family, axes, &mut levels);
-    let n = (family.edge as usize) * (family.edge as usize);
-    levels_lit(light, &painted[..n], &levels[..n])
+    let mut levels = [0; 64];
+    reader::sample_levels(picture, family, places::axes_of(quad), &mut levels).unwrap();
+    levels
+}
+
+// Whether the samples of a quad are lit well enough in a picture, by what the painted picture shows at them.
+fn is_lit(shown: &Picture, light: u8, family: Family, quad: Quad, picture: &Picture) -> bool
+    requires shown { Sampleable shown.now.bytes.now shown.now.frame family quad }
+    requires picture { Sampleable picture.now.bytes.now picture.now.frame family quad }
+    ensures { result ≡ is_lit shown.now.bytes.now shown.now.frame light family quad picture.now.bytes.now picture.now.frame }
+{
+    let edge = family.edge as usize;
+    let painted = quad_levels(shown, family, quad);
+    let levels = quad_levels(picture, family, quad);
+    levels_lit(light, &painted[..edge * edge], &levels[..edge * edge])
 }
 
 // Reads one start of a painted quad in a picture of the painted plane's width and height, and works out whether its samples are lit there.
 fn read_lit(
-    shown: &[u8],
-    frame: Frame,
+    shown: &Picture,
     light: u8,
     family: Family,
     codes: &[u64],
@@ -95,28 +94,34 @@ fn read_lit(
     pitch: usize,
     start: u8,
 ) -> LitReading
-    requires { Sampleable shown.now frame family quad }
-    ensures { PictureRead shown.now frame light family codes.now quad picture.now pitch start result.lit (paper_reading result.reading) }
+    requires { Sampleable shown.now.bytes.now shown.now.frame family quad }
+    ensures { PictureRead shown.now.bytes.now shown.now.frame light family codes.now quad picture.now pitch start result.lit (paper_reading result.reading) }
 {
     let seen = Frame {
-        width: frame.width,
-        height: frame.height,
         pitch,
+        ..shown.frame
     };
     let turned = points::rotate_left(quad, start);
     let reading = muosleap::detector::try_decode_quad(picture, seen, family, codes, turned);
-    if refusals::bad_frame(picture.len(), seen) {
-        return LitReading {
-            lit: false,
-            reading,
-        };
-    }
-    let lit = is_lit(shown, frame, light, family, quad, picture, seen);
+    let lit = match Picture::new(picture, seen) {
+        Ok(picture) => is_lit(shown, light, family, quad, &picture),
+        Err(_) => false,
+    };
     LitReading { lit, reading }
 }
 
-// Paints the word with the table's edge and border, and reads one start of the painter's quad in a picture of the plane's width and height,
-// at a pitch of its own. Where the painter refuses, the answer is its number.
+// What there is to say of a picture where the painter refuses.
+fn unpainted(refusal: Refusal) -> LitReading
+    ensures { (result.lit ≡ false) × (paper_reading result.reading ≡ refused (number_of refusal)) }
+{
+    LitReading {
+        lit: false,
+        reading: Reading::from(refusal),
+    }
+}
+
+/// Paints the word with the table's edge and border, and reads one start of the painter's quad in a picture of the plane's width and height,
+/// at a pitch of its own. Where the painter refuses, the answer is its number.
 pub fn paint_then_read_lit(
     plane: &mut [u8],
     frame: Frame,
@@ -131,28 +136,29 @@ pub fn paint_then_read_lit(
     ensures { LitThenRead plane.old frame family codes.now word print picture.now pitch start
         result.lit (paper_reading result.reading) plane.new }
 {
-    let painted = paint_tag(plane, frame, family.edge, family.border, word, print);
-    match painted {
-        Painted::Refused(n) => LitReading {
-            lit: false,
-            reading: Reading::Refused(n),
-        },
-        Painted::Tag(quad) => read_lit(
-            plane,
-            frame,
-            print.light,
-            family,
-            codes,
-            quad,
-            picture,
-            pitch,
-            start,
-        ),
+    match paint_tag(plane, frame, family.edge, family.border, word, print) {
+        Ok(quad) => {
+            let shown = Picture {
+                bytes: plane,
+                frame,
+            };
+            read_lit(
+                &shown,
+                print.light,
+                family,
+                codes,
+                quad,
+                picture,
+                pitch,
+                start,
+            )
+        }
+        Err(refusal) => unpainted(refusal),
     }
 }
 
-// Paints a sheet, and reads one start of the quad that stands at a position of it in such a picture. Where the painter refuses, the answer
-// is its number.
+/// Paints a sheet, and reads one start of the quad that stands at a position of it in such a picture. Where the painter refuses, the answer
+/// is its number.
 pub fn paint_sheet_then_read_lit(
     plane: &mut [u8],
     frame: Frame,
@@ -170,17 +176,15 @@ pub fn paint_sheet_then_read_lit(
     ensures { SheetLitThenRead plane.old frame family codes.now grid print quads.old position picture.now pitch start
         result.lit (paper_reading result.reading) plane.new quads.new }
 {
-    let sheet = paint_sheet(plane, frame, family, codes, grid, print, quads);
-    match sheet {
-        Sheet::Refused(n) => LitReading {
-            lit: false,
-            reading: Reading::Refused(n),
-        },
-        Sheet::Painted => {
+    match paint_sheet(plane, frame, family, codes, grid, print, quads) {
+        Ok(()) => {
             let quad = points::quad_at(quads, position);
-            read_lit(
-                plane,
+            let shown = Picture {
+                bytes: plane,
                 frame,
+            };
+            read_lit(
+                &shown,
                 print.light,
                 family,
                 codes,
@@ -190,5 +194,6 @@ pub fn paint_sheet_then_read_lit(
                 start,
             )
         }
+        Err(refusal) => unpainted(refusal),
     }
 }

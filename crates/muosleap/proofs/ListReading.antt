@@ -34,15 +34,6 @@ module _ (c : Call) where
   abbrev pub tested : Listing
   tested = cond c.test_1 (refusing 1) (cond c.test_6 (refusing 6) (cond c.test_16 (refusing 16) c.read))
 
-  pub tested_1 : c.test_1 ≡ true → refusing 1 ≡ tested
-  tested_1 p = simp p
-
-  pub tested_6 : c.test_1 ≡ false → c.test_6 ≡ true → refusing 6 ≡ tested
-  tested_6 p q = simp (p, q)
-
-  pub tested_16 : c.test_1 ≡ false → c.test_6 ≡ false → c.test_16 ≡ true → refusing 16 ≡ tested
-  tested_16 p q r = simp (p, q, r)
-
   pub tested_on : c.test_1 ≡ false → c.test_6 ≡ false → c.test_16 ≡ false → c.read ≡ tested
   tested_on p q r = simp (p, q, r)
 

@@ -1,9 +1,9 @@
 -- The quad reader's refusals 1 and 6 in their order, and the reading after them. Assumes nothing.
-use mathlib.Core.Path.{◌≡◌, sym, ap₂, ◌∙◌}
+use mathlib.Core.Path.{◌≡◌}
 use mathlib.Core.Bool.{true, false}
 use mathlib.Core.List.{List}
-use Prim.Native.Nat.{ℕ, ◌<◌, ◌≤◌}
-use borrow.Author.Tests.{lt-ltb, le-ltb}
+use Prim.Native.Nat.{ℕ, ◌≤◌}
+use borrow.Author.Tests.{le-ltb}
 use lib.ListN.{length}
 use Rattle.refusals.specs.Outcome.{refused}
 use Rattle.refusals.specs.Pixels.{bad_frame}
@@ -11,7 +11,6 @@ use Rattle.refusals.specs.declared.Frame.{Frame}
 use Rattle.points.specs.declared.Quad.{Quad}
 use Rattle.tables.specs.Table.{bad_table}
 use Rattle.tables.specs.declared.Family.{Family}
-use Rattle.tag_families.specs.Families.{family_of, codes_of}
 use Rattle.reader.specs.Reading.{reading}
 use Rattle.muosleap.specs.Quad.{decode_quad, decode_quad_in}
 
@@ -36,8 +35,3 @@ module _ (plane : List ℕ) (frame : Frame) (n : ℕ) (quad : Quad) where
   pub in_6 : bad_frame (length plane) frame ≡ false → 5 ≤ n → decode_quad_in plane frame n quad ≡ refused 6
   unfolding decode_quad_in
   in_6 p h = simp (p, le-ltb n 5 h)
-
-  pub in_read : {family : Family} {codes : List ℕ} → bad_frame (length plane) frame ≡ false → n < 5 → family ≡ family_of n → codes ≡ codes_of n → reading plane frame family codes quad ≡ decode_quad_in plane frame n quad
-  unfolding decode_quad_in
-  in_read p known e d =
-      ap₂ (λ (f : Family) (l : List ℕ). reading plane frame f l quad) e d ∙ sym (simp (p, lt-ltb n 5 known))

@@ -1,17 +1,24 @@
 -- The entries on words and codes: "the code search's 6, 13; a lone turn's 6 for its edge". Assumes nothing.
-use Rattle.std.specs.Prelude.{ℕ, cond, List}
+use Rattle.std.specs.Prelude.{ℕ, cond, List, Result, Ok, Err}
 use Rattle.refusals.specs.Outcome.{Outcome, accepted, refused}
 use Rattle.word.specs.Word.{turn}
 use Rattle.tables.specs.Table.{bad_edge, bad_codes}
 use Rattle.search.specs.Search.{Seen, search, search_from}
 use Rattle.search.specs.Compared.{compared, compared_from}
-use Rattle.muosleap.specs.declared.detector.Turned.{Turned}
-use Rattle.muosleap.specs.declared.detector.Turned.TheVariants.{Word, Refused}
+use Rattle.search.specs.Answer.{paper_found}
+use Rattle.search.specs.declared.SearchResult.{SearchResult}
+use Rattle.refusals.specs.Numbers.{number_of}
+use Rattle.refusals.specs.declared.refusal.Refusal.{Refusal}
 
--- the answer of a turn in 01's numbers
-abbrev pub paper_turned : Turned → Outcome ℕ
-paper_turned (Word w) = accepted w
-paper_turned (Refused n) = refused n
+-- what a search says: id, turn and differing modules, or the refusal
+abbrev pub paper_search : Result SearchResult Refusal → Outcome Seen
+paper_search (Ok s) = paper_found s
+paper_search (Err refusal) = refused (number_of refusal)
+
+-- the count of codes compared, "given beside 13" too; a table that is refused has none
+abbrev pub paper_count : Result SearchResult Refusal → Outcome ℕ
+paper_count (Ok s) = accepted s.compared
+paper_count (Err refusal) = refused (number_of refusal)
 
 -- a lone turn
 unfoldable pub turned : ℕ → ℕ → Outcome ℕ

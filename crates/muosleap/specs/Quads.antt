@@ -1,20 +1,13 @@
 -- The list reader as an entry: "the list reader's 1, 6, 16 and, in rows, 8 to 13", and of 02's ticket 4 "18, given in rows only, after 13". A
 -- refused call leaves both outputs as they were. Assumes nothing.
 use Rattle.std.specs.Prelude.{ℕ, cond, not, List, Float, length}
-use Rattle.refusals.specs.Outcome.{Outcome, accepted, refused}
+use Rattle.refusals.specs.Outcome.{refused}
 use Rattle.refusals.specs.Pixels.{bad_frame}
 use Rattle.refusals.specs.declared.Frame.{Frame}
 use Rattle.tables.specs.Table.{bad_table}
 use Rattle.tables.specs.declared.Family.{Family}
 use Rattle.tag_families.specs.Families.{is_family, family_of, codes_of}
 use Rattle.listing.specs.Listing.{bad_list, Listing, listing_of, listing}
-use Rattle.muosleap.specs.declared.quads.Listed.{Listed}
-use Rattle.muosleap.specs.declared.quads.Listed.TheVariants.{Done, Refused}
-
--- the number of quads, or the refusal's number
-abbrev pub paper_listed : Listed → Outcome ℕ
-paper_listed (Done n) = accepted n
-paper_listed (Refused n) = refused n
 
 -- with a lent table
 unfoldable pub decode_quads : List ℕ → Frame → Family → List ℕ → List Float → List ℕ → List Float → Listing

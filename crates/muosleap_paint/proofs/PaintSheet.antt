@@ -61,27 +61,6 @@ module _ (plane : List ℕ) (frame : Frame) (family : Family) (codes : List ℕ)
   unfolding paint_sheet
   is_tested = refl
 
-  -- what the first test that fails refuses
-  abbrev refused_by : ℕ → SheetPainting
-  refused_by n = painting_of (refused n) plane quads
-
-  pub sheet_1 : bad_frame (length plane) frame ≡ true → refused_by 1 ≡ paint_sheet plane frame family codes grid print quads
-  sheet_1 a = sym (is_tested ∙ simp a)
-
-  pub sheet_6 : bad_frame (length plane) frame ≡ false → bad_table family codes ≡ true → refused_by 6 ≡ paint_sheet plane frame family codes grid print quads
-  sheet_6 a b = sym (is_tested ∙ simp (a, b))
-
-  pub sheet_14 : bad_frame (length plane) frame ≡ false → bad_table family codes ≡ false → bad_style print ≡ true → refused_by 14 ≡ paint_sheet plane frame family codes grid print quads
-  sheet_14 a b c = sym (is_tested ∙ simp (a, b, c))
-
-  pub sheet_17 : bad_frame (length plane) frame ≡ false → bad_table family codes ≡ false → bad_style print ≡ false → bad_grid frame family (length codes) grid print ≡ true
-      → refused_by 17 ≡ paint_sheet plane frame family codes grid print quads
-  sheet_17 a b c d = sym (is_tested ∙ simp (a, b, c, d))
-
-  pub sheet_16 : bad_frame (length plane) frame ≡ false → bad_table family codes ≡ false → bad_style print ≡ false → bad_grid frame family (length codes) grid print ≡ false
-      → bad_output grid (length quads) ≡ true → refused_by 16 ≡ paint_sheet plane frame family codes grid print quads
-  sheet_16 a b c d e = sym (is_tested ∙ simp (a, b, c, d, e))
-
   -- a painting that nothing refuses
   pub sheet-done : Sheetable (length plane) frame family codes grid print (length quads) → paint_sheet plane frame family codes grid print quads ≡ done
   sheet-done p = is_tested ∙ simp (p.planes, p.tables, p.styles, p.grids, p.outputs)

@@ -11,13 +11,6 @@ use Rattle.painter.specs.Tag.{painted}
 use Rattle.painter.specs.Corners.{print_quad}
 use Rattle.painter.specs.Printable.{bad_print}
 use Rattle.painter.specs.declared.Print.{Print}
-use Rattle.muosleap_paint.specs.declared.painting.Painted.{Painted}
-use Rattle.muosleap_paint.specs.declared.painting.Painted.TheVariants.{Tag, Refused}
-
--- the answer of a painting in 01's numbers
-abbrev pub paper_painted : Painted → Outcome Quad
-paper_painted (Tag quad) = accepted quad
-paper_painted (Refused n) = refused n
 
 -- a painting: what it answers, and the plane afterwards
 pub record Painting : Type 0 where

@@ -1,11 +1,12 @@
 -- The outcome of `init_saddle_clusters` by the tests that a call fails or passes. Assumes nothing.
-use mathlib.Core.Path.{◌≡◌, ap, ◌∙◌}
+use Rattle.std.specs.Float.{float_is_finite}
+use mathlib.Core.Path.{◌≡◌, refl, ap, ◌∙◌}
 use mathlib.Core.Bool.{Bool, true, false, not}
 use mathlib.Core.List.{List}
 use Prim.Native.Nat.{ℕ, ◌+◌, ◌*◌, ◌<◌, ◌≤◌}
 use borrow.Author.Tests.{lt-ltb, le-ltb}
 use lib.ListN.{length}
-use lib.Ieee.{Float}
+use lib.Ieee.{Float, nan, inf, fin}
 use lib.Ieee.Scale.{finite}
 use Rattle.lists.specs.Tab.{all}
 use Rattle.refusals.specs.declared.Shape.{Shape}
@@ -14,6 +15,13 @@ use Rattle.refusals.specs.Plane.{bad_plane}
 use Rattle.samples.specs.Samples.{tame}
 use Rattle.clusters.specs.Clusters.{Found, saddle_clusters}
 use Rattle.muosleap_picture.specs.SaddleClusters.{Call, call, init_saddle_clusters}
+
+-- the library's test of a float
+pub finite_is : (t : Float) → float_is_finite t ≡ finite t
+unfolding float_is_finite
+finite_is nan = refl
+finite_is (inf s) = refl
+finite_is (fin s m e) = refl
 
 module _ (plane : List Float) (shape : Shape) (threshold : Float) (worklist : ℕ) (rows : List ℕ) where
   abbrev misshapen : Bool
@@ -30,10 +38,6 @@ module _ (plane : List Float) (shape : Shape) (threshold : Float) (worklist : �
 
   abbrev outcome : Call
   outcome = init_saddle_clusters plane shape threshold worklist rows
-
-  pub refused_1 : misshapen ≡ true → call (refused 1) plane rows ≡ outcome
-  unfolding init_saddle_clusters
-  refused_1 a = simp a
 
   module _ (a : misshapen ≡ false) where
     pub refused_3 : wild ≡ true → call (refused 3) plane rows ≡ outcome

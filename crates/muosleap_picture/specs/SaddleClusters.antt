@@ -7,13 +7,6 @@ use Rattle.refusals.specs.Outcome.{Outcome, accepted, refused}
 use Rattle.refusals.specs.Plane.{bad_plane}
 use Rattle.samples.specs.Samples.{tame}
 use Rattle.clusters.specs.Clusters.{saddle_clusters}
-use Rattle.muosleap_picture.specs.declared.saddles.Clusters.{Clusters}
-use Rattle.muosleap_picture.specs.declared.saddles.Clusters.TheVariants.{Total, Refused}
-
--- the total, or the refusal's number
-abbrev pub paper_clusters : Clusters → Outcome ℕ
-paper_clusters (Total n) = accepted n
-paper_clusters (Refused n) = refused n
 
 -- what a call leaves: its answer, the plane and the row slice
 pub record Call : Type 0 where

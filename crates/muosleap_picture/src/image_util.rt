@@ -1,87 +1,64 @@
-// Planes of f32 samples, after the file of this name of the Rust. Each function takes any input: it answers with the number
-// of a refusal, and then has written nothing, or does its work.
+//! Planes of f32 samples, after the file of this name of the Rust. Each function takes any input: it answers with a refusal, and then
+//! has written nothing, or does its work.
 ghost use Rattle.std.specs.Prelude.{◌≡◌};
-ghost use Rattle.muosleap_picture.specs.ImageUtil.{paper_filled, paper_threshold, gaussian_blur, hessian_response, response_threshold};
+ghost use Rattle.refusals.specs.Numbers.{outcome};
+ghost use Rattle.muosleap_picture.specs.ImageUtil.{done, gaussian_blur, hessian_response, response_threshold};
 
 use blur::{bad_weights, blur_across, blur_down};
-use refusals::{Shape, bad_plane};
-use samples::{all_in_unit, all_tame};
+use refusals::{Refusal, Shape};
+use samples::{Plane, TAME, UNIT};
 
-// What a call answers that fills planes.
-#[derive(Clone, Copy)]
-pub enum Filled {
-    Done,
-    Refused(u8),
-}
-
-#[derive(Clone, Copy)]
-pub enum Threshold {
-    At(f32),
-    Refused(u8),
-}
-
-// Blurs `img` across into `temp`, and `temp` down into `out`.
+/// Blurs `img` across into `temp`, and `temp` down into `out`. Refusals: 1 for each of the three planes, 2 for the weights, 3 for a
+/// sample of `img` outside of 0.0 to 1.0.
+#[tactic(auto, unfolding(crate::specs::ImageUtil::gaussian_blur))]
 pub fn gaussian_blur_f32(
     img: &[f32],
     shape: Shape,
     weights: &[f32],
     temp: &mut [f32],
     out: &mut [f32],
-) -> Filled
-    ensures { record { answer = paper_filled result; temp = temp.new; out = out.new }
+) -> Result<(), Refusal>
+    ensures { record { answer = done result; temp = temp.new; out = out.new }
         ≡ gaussian_blur img.now shape weights.now temp.old out.old }
 {
-    let width = shape.width;
-    let height = shape.height;
-    if bad_plane(img.len(), width, height) {
-        return Filled::Refused(1);
-    }
-    if bad_plane(temp.len(), width, height) {
-        return Filled::Refused(1);
-    }
-    if bad_plane(out.len(), width, height) {
-        return Filled::Refused(1);
-    }
+    let plane = Plane::new(img, shape)?;
+    Plane::new(temp, shape)?;
+    Plane::new(out, shape)?;
     if bad_weights(weights) {
-        return Filled::Refused(2);
+        return Err(Refusal::Weights);
     }
-    if !all_in_unit(img) {
-        return Filled::Refused(3);
+    if !UNIT.hold(img) {
+        return Err(Refusal::Sample);
     }
-    blur_across(img, width, height, weights, temp);
-    blur_down(temp, width, height, weights, out);
-    Filled::Done
+    blur_across(&plane, weights, temp);
+    let across = Plane {
+        samples: temp,
+        shape,
+    };
+    blur_down(&across, weights, out);
+    Ok(())
 }
 
-// The response of `img` into `out`.
-pub fn hessian_response(img: &[f32], shape: Shape, out: &mut [f32]) -> Filled
-    ensures { record { answer = paper_filled result; out = out.new } ≡ hessian_response img.now shape out.old }
+/// The response of `img` into `out`. Refusals: 1 for both planes, 3 for a sample of a magnitude above 65,536.
+#[tactic(auto, unfolding(crate::specs::ImageUtil::hessian_response))]
+pub fn hessian_response(img: &[f32], shape: Shape, out: &mut [f32]) -> Result<(), Refusal>
+    ensures { record { answer = done result; out = out.new } ≡ hessian_response img.now shape out.old }
 {
-    let width = shape.width;
-    let height = shape.height;
-    if bad_plane(img.len(), width, height) {
-        return Filled::Refused(1);
+    let plane = Plane::new(img, shape)?;
+    Plane::new(out, shape)?;
+    if !TAME.hold(img) {
+        return Err(Refusal::Sample);
     }
-    if bad_plane(out.len(), width, height) {
-        return Filled::Refused(1);
-    }
-    if !all_tame(img) {
-        return Filled::Refused(3);
-    }
-    response::hessian_response(img, width, height, out);
-    Filled::Done
+    response::hessian_response(&plane, out);
+    Ok(())
 }
 
-// The threshold below which samples of a response are clustered.
-pub fn response_threshold(response: &[f32], shape: Shape) -> Threshold
-    ensures { paper_threshold result ≡ response_threshold response.now shape }
+/// The threshold below which samples of a response are clustered. Refusals: 1 for the plane, 3 for a sample of a magnitude above
+/// 65,536.
+#[tactic(auto, unfolding(crate::specs::ImageUtil::response_threshold))]
+pub fn response_threshold(response: &[f32], shape: Shape) -> Result<f32, Refusal>
+    ensures { outcome result ≡ response_threshold response.now shape }
 {
-    if bad_plane(response.len(), shape.width, shape.height) {
-        return Threshold::Refused(1);
-    }
-    let found = threshold::response_threshold(response);
-    if !found.tame {
-        return Threshold::Refused(3);
-    }
-    Threshold::At(found.threshold)
+    Plane::new(response, shape)?;
+    threshold::response_threshold(response).ok_or(Refusal::Sample)
 }

@@ -1,57 +1,48 @@
-// The public entries on clusters and their centres.
+//! The public entries on clusters and their centres.
 ghost use Rattle.std.specs.Prelude.{◌≡◌, length};
-ghost use Rattle.muosleap_picture.specs.SaddleClusters.{paper_clusters, init_saddle_clusters, WorklistKept};
-ghost use Rattle.muosleap_picture.specs.ClusterCenter.{paper_center, cluster_center};
+ghost use Rattle.refusals.specs.Numbers.{outcome};
+ghost use Rattle.muosleap_picture.specs.SaddleClusters.{init_saddle_clusters, WorklistKept};
+ghost use Rattle.muosleap_picture.specs.ClusterCenter.{cluster_center};
 
 use points::Point;
-use refusals::Shape;
+use refusals::{Refusal, Shape};
+use samples::{Plane, TAME};
 
-#[derive(Clone, Copy)]
-pub enum Clusters {
-    Total(usize),
-    Refused(u8),
-}
-
-#[derive(Clone, Copy)]
-pub enum Center {
-    At(Point),
-    Refused(u8),
-}
-
-// The clusters of a plane: the total, as many whole rows as fit, and clustered samples at the largest f32; or 1, 3, 4 or 5
-// with everything as it was.
+/// The clusters of a plane: the total, as many whole rows as fit, and clustered samples at the largest f32. Refusals, with
+/// everything as it was: 1 for the plane, 3 for a sample of a magnitude above 65,536, 4 for a threshold that is not finite, 5 for a
+/// worklist with less room than three times the samples and one.
+#[tactic(auto, using(std::proofs::lemmas::Bool::Decides::nat_tests), unfolding(crate::specs::SaddleClusters::init_saddle_clusters))]
 pub fn init_saddle_clusters(
     h_mat: &mut [f32],
     shape: Shape,
     threshold: f32,
     worklist: &mut [u32],
     rows: &mut [u64],
-) -> Clusters
-    ensures rows_after { record { answer = paper_clusters result; plane = h_mat.new; rows = rows.new }
+) -> Result<usize, Refusal>
+    ensures rows_after { record { answer = outcome result; plane = h_mat.new; rows = rows.new }
         ≡ init_saddle_clusters h_mat.old shape threshold (length worklist.old) rows.old }
-    ensures worklist_kept { WorklistKept (paper_clusters result) worklist.old worklist.new }
+    ensures worklist_kept { WorklistKept (outcome result) worklist.old worklist.new }
 {
-    if refusals::bad_plane(h_mat.len(), shape.width, shape.height) {
-        return Clusters::Refused(1);
+    Plane::new(h_mat, shape)?;
+    if !TAME.hold(h_mat) {
+        return Err(Refusal::Sample);
     }
-    if !samples::all_tame(h_mat) {
-        return Clusters::Refused(3);
-    }
-    if !clusters::is_finite(threshold) {
-        return Clusters::Refused(4);
+    if !threshold.is_finite() {
+        return Err(Refusal::Threshold);
     }
     if worklist.len() < 3 * h_mat.len() + 1 {
-        return Clusters::Refused(5);
+        return Err(Refusal::Worklist);
     }
-    Clusters::Total(clusters::init_saddle_clusters(h_mat, shape, threshold, worklist, rows))
+    Ok(clusters::init_saddle_clusters(h_mat, shape, threshold, worklist, rows))
 }
 
-// The centre of a cluster from its row, or 15.
-pub fn cluster_center(sum_x: u64, sum_y: u64, count: u64) -> Center
-    ensures { paper_center result ≡ cluster_center sum_x sum_y count }
+/// The centre of a cluster from its row, or refusal 15.
+#[tactic(auto, unfolding(crate::specs::ClusterCenter::cluster_center))]
+pub fn cluster_center(sum_x: u64, sum_y: u64, count: u64) -> Result<Point, Refusal>
+    ensures { outcome result ≡ cluster_center sum_x sum_y count }
 {
     if clusters::bad_center(sum_x, sum_y, count) {
-        return Center::Refused(15);
+        return Err(Refusal::Count);
     }
-    Center::At(clusters::cluster_center(sum_x, sum_y, count))
+    Ok(clusters::cluster_center(sum_x, sum_y, count))
 }

@@ -22,9 +22,9 @@ pub sized : (b : Bool) (size found : ℕ) → accepted found ≡ cond b (accepte
 sized true size found e = (refl, cc e)
 sized false size found e = let z : ◌≡◌ {A = ℕ} 0 1 = cc e in absurd (omega arith)
 
-pub unsized : (b : Bool) (size : ℕ) → ◌≡◌ {A = Outcome ℕ} (refused 20) (cond b (accepted size) (refused 20)) → b ≡ false
-unsized true size e = let z : ◌≡◌ {A = ℕ} 0 1 = cc e in absurd (omega arith)
-unsized false size e = refl
+pub unsized : (b : Bool) (size : ℕ) (number : ℕ) → ◌≡◌ {A = Outcome ℕ} (refused number) (cond b (accepted size) (refused 20)) → (b ≡ false) × (number ≡ 20)
+unsized true size number e = let z : ◌≡◌ {A = ℕ} 0 1 = cc e in absurd (omega arith)
+unsized false size number e = (refl, cc e)
 
 module _ (rows : List ℕ) (corners : List Float) (report : List ℕ) where
   pub too_many : most_quads < row_count (length rows) → writing_of (refused 19) report ≡ write_report rows corners report

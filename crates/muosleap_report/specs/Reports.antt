@@ -10,19 +10,6 @@ use Rattle.listing.specs.Listing.{row_size, most_quads, row_of, corners_of, List
 use Rattle.report.specs.Bytes.{report_of}
 use Rattle.report.specs.Rows.{front_rows, row_count, rows_say, is_rows}
 use Rattle.report.specs.Report.{count_in, report_says, is_report}
-use Rattle.muosleap_report.specs.declared.reports.Written.{Written}
-use Rattle.muosleap_report.specs.declared.reports.Written.TheVariants.{Bytes, Refused}
-use Rattle.muosleap_report.specs.declared.reports.Reread.{Reread}
-use Rattle.muosleap_report.specs.declared.reports.Reread.TheVariants.{Rows, Refused as Unread}
-
--- the number of bytes written, or of rows read, or the refusal's number
-abbrev pub paper_written : Written → Outcome ℕ
-paper_written (Bytes n) = accepted n
-paper_written (Refused n) = refused n
-
-abbrev pub paper_reread : Reread → Outcome ℕ
-paper_reread (Rows n) = accepted n
-paper_reread (Unread n) = refused n
 
 -- what the writer leaves: its answer, which is the number of bytes written, and the output
 pub record Writing : Type 0 where

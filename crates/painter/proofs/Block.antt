@@ -3,7 +3,9 @@ use mathlib.Core.Path.{◌≡◌, refl, sym, ap, ap₂, ◌∙◌}
 use mathlib.Core.Bool.{Bool, true, false, ◌&&◌, ◌||◌, cond, and-or_distrib_left, and-false, true≢false}
 use mathlib.Core.List.{List}
 use Prim.Native.Nat.{ℕ, ◌+◌, ◌-◌, ◌<◌, ◌≤◌}
+use native.Mathlib.Nat.{mul-le-mul}
 use native.Mathlib.Omega.{arith}
+use borrow.Rule.Slice.PartMut.{put_mid}
 use borrow.Author.Tests.{ltb-false}
 use lib.ListN.{length, get_or}
 use Rattle.lists.proofs.Bools.{same_test, and_left, and_right, overlay}
@@ -11,7 +13,7 @@ use Rattle.refusals.specs.Pixels.{bad_frame, place_of, column_of, line_of, is_pi
 use Rattle.refusals.specs.declared.Frame.{Frame}
 use Rattle.refusals.proofs.Pixels.{place_column, place_row, byte_place, place_beside, good_frame}
 use Rattle.painter.specs.Picture.{repainted, between, run_written, in_block, block_pixel, filled}
-use Rattle.painter.proofs.Runs.{Within, is_within, within, between_none, between_more, length_run, byte_run}
+use Rattle.painter.proofs.Runs.{Within, is_within, within, between_none, between_more, length_run, byte_run, part_written}
 use Rattle.painter.proofs.Picture.{is_repainted, byte_is, repainted_none, repainted_twice, repainted_same}
 
 pub record In (x0 y0 wide high x y : ℕ) : Type 0 where
@@ -102,14 +104,24 @@ module _ (frame : Frame) (x y wide : ℕ) (new : ℕ → ℕ) (plane : List ℕ)
   block_none =
       repainted_none frame (block_pixel x y wide 0 new) plane (λ px py old. ap (λ (t : Bool). cond t (new (px - x)) old) (no_rows x y wide px py))
 
-  pub block_more : (n : ℕ) (out next : List ℕ) → x + wide ≤ frame.width → frame.width ≤ frame.pitch → out ≡ repainted frame (block_pixel x y wide n new) plane
-      → next ≡ run_written (place_of frame x (y + n)) wide new out → next ≡ repainted frame (block_pixel x y wide (n + 1) new) plane
-  block_more n out next fits pitched e r =
-      r ∙ run_painted frame x (y + n) wide new out fits pitched
+  -- one row more is written, as one part of the plane
+  pub block_more : (n start k : ℕ) (out ys : List ℕ) → start ≡ place_of frame x (y + n) → k ≡ wide → start + wide ≤ length out → length ys ≡ wide
+      → ((i : ℕ) → i < wide → get_or ys i 0 ≡ new i) → x + wide ≤ frame.width → frame.width ≤ frame.pitch → out ≡ repainted frame (block_pixel x y wide n new) plane
+      → put_mid start k out ys ≡ repainted frame (block_pixel x y wide (n + 1) new) plane
+  block_more n start k out ys s w inside l is fits pitched e =
+      part_written start new out k wide ys w inside l is
+      ∙ ap (λ (m : ℕ). run_written m wide new out) s
+      ∙ run_painted frame x (y + n) wide new out fits pitched
       ∙ ap (repainted frame (block_pixel x (y + n) wide 1 new)) e
       ∙ repainted_twice frame (block_pixel x y wide n new) (block_pixel x (y + n) wide 1 new) (block_pixel x y wide (n + 1) new) plane (λ px py old.
       overlay (in_block x y wide n px py) (in_block x (y + n) wide 1 px py) (new (px - x)) (new (px - x)) old (λ t. refl)
       ∙ ap (λ (t : Bool). cond t (new (px - x)) old) (sym (more_rows x y wide n 1 px py)))
+
+-- ---- places that are small
+
+-- a place in a picture is at most 4096 × 8192 + 4096
+pub place_le : (frame : Frame) (x y : ℕ) → frame.pitch ≤ 8192 → x ≤ 4096 → y ≤ 4096 → place_of frame x y ≤ 33558528
+place_le frame x y p a b = omega (arith, mul-le-mul b p)
 
 -- the block of all rows and columns has every pixel
 pub whole_block : (frame : Frame) (light : ℕ) (plane next : List ℕ) → bad_frame (length plane) frame ≡ false

@@ -2,26 +2,27 @@
 use mathlib.Core.Path.{◌≡◌, sym, ap, ◌∙◌}
 use mathlib.Core.Bool.{Bool, true, false, cond}
 use mathlib.Core.List.{List}
-use Prim.Native.Nat.{ℕ, ◌+◌, ◌-◌, ◌*◌, ◌/◌, ◌<◌}
+use Prim.Native.Nat.{ℕ, ◌+◌, ◌-◌, ◌*◌, ◌/◌, ◌<◌, ◌≤◌}
 use native.Mathlib.Nat.{add-mul, div-lt_iff_lt-mul, le-div_iff_mul-le}
 use native.Mathlib.Omega.{arith}
 use lib.ListN.{length, get_or}
-use Rattle.lists.proofs.Bools.{and_not_left, and_not_right}
+use borrow.Rule.Slice.PartMut.{put_mid}
+use Rattle.lists.proofs.Bools.{and_not_right}
 use Rattle.lists.proofs.Grid.{next_row}
 use Rattle.lists.proofs.Tab.{length-tabulate, get_or-tabulate}
 use Rattle.painter.specs.Picture.{between, run_written}
 use Rattle.painter.specs.Tag.{cell_at, shows_light, shade_of, size_of}
-use Rattle.painter.specs.Part.{RowOf, row_shade, row_line, dark_line}
+use Rattle.painter.specs.Part.{row_shade, row_line, dark_line}
+use Rattle.painter.proofs.Printable.{RowOf}
 use Rattle.painter.specs.declared.Print.{Print}
-use Rattle.painter.proofs.Runs.{Within, before_run, after_run, tabulated, run_none, run_further, run_as_is, run_all}
+use Rattle.painter.proofs.Runs.{Within, before_run, after_run, tabulated, part_written, run_none, run_further, run_as_is, run_all}
 use Rattle.painter.proofs.Part.{cell_at_lem}
 use Rattle.painter.proofs.Turned.{is_module, border_shade}
 
 -- a line that was made dark
 pub made_dark : (edge border : ℕ) (print : Print) (line : List ℕ) → length line ≡ size_of edge border print
-    → run_written 0 (length line) (λ i. print.dark) line ≡ dark_line edge border print
-made_dark edge border print line e =
-    ap (λ (n : ℕ). run_written 0 n (λ i. print.dark) line) e ∙ run_all (λ i. print.dark) line (size_of edge border print) e
+    → ((k : ℕ) → k < size_of edge border print → get_or line k 0 ≡ print.dark) → line ≡ dark_line edge border print
+made_dark edge border print line e h = tabulated (λ k. print.dark) (size_of edge border print) line e h
 
 module _ (edge border word : ℕ) (print : Print) (row : ℕ) (r : RowOf edge border print row) where
   abbrev cell : ℕ
@@ -49,10 +50,6 @@ module _ (edge border word : ℕ) (print : Print) (row : ℕ) (r : RowOf edge bo
   border_column : (k : ℕ) → k < length dark → between border edge (k / cell) ≡ false → get_or dark k 0 ≡ shade k
   border_column k b e = stays_dark k (omega (arith, b, long)) (and_not_right (between border edge row) (between border edge (k / cell)) e)
 
-  -- a whole row of the border
-  pub border_row : between border edge row ≡ false → dark ≡ row_line edge border word print row
-  border_row e = tabulated shade size dark long (λ k b. stays_dark k b (and_not_left (between border edge row) (between border edge (k / cell)) e))
-
   -- the cells before the first module
   pub left_border : dark ≡ run_written 0 (border * cell) shade dark
   left_border =
@@ -71,10 +68,12 @@ module _ (edge border word : ℕ) (print : Print) (row : ℕ) (r : RowOf edge bo
 
   -- the cells before `column` are as they should be, and then the one in it
   module _ (column : ℕ) (line : List ℕ) (e : line ≡ run_written 0 (column * cell) shade dark) where
-    pub light_module : (next : List ℕ) → shows_light edge border word print (cell_at row column) ≡ true
-        → next ≡ run_written (column * cell) cell (λ i. print.light) line → next ≡ run_written 0 ((column + 1) * cell) shade dark
-    light_module next light w =
-        w ∙ ap (run_written (column * cell) cell (λ i. print.light)) e
+    pub light_module : (k : ℕ) (ys : List ℕ) → shows_light edge border word print (cell_at row column) ≡ true
+        → k ≡ cell → column * cell + cell ≤ length line → length ys ≡ cell → ((i : ℕ) → i < cell → get_or ys i 0 ≡ print.light)
+        → put_mid (column * cell) k line ys ≡ run_written 0 ((column + 1) * cell) shade dark
+    light_module k ys light w inside l is =
+        part_written (column * cell) (λ i. print.light) line k cell ys w inside l is
+        ∙ ap (run_written (column * cell) cell (λ i. print.light)) e
         ∙ run_further shade dark (column * cell) cell (λ i. print.light) (λ k i.
         sym (cell-shade column k i ∙ ap (λ (t : Bool). cond t print.light print.dark) light))
         ∙ ap (λ (n : ℕ). run_written 0 n shade dark) (next_row cell column)

@@ -1,28 +1,16 @@
--- The module of a print's cell, and where the word has it. Assumes nothing.
+-- The module of a print's cell. Assumes nothing.
 use mathlib.Core.Path.{◌≡◌, sym, ap, ap₂, ◌∙◌}
-use mathlib.Core.Bool.{Bool, true, false, ◌&&◌, and-false, and_assoc}
-use Prim.Native.Nat.{ℕ, ◌+◌, ◌-◌, ◌*◌, ◌<◌}
+use mathlib.Core.Bool.{Bool, true, false, ◌&&◌, and_assoc}
+use Prim.Native.Nat.{ℕ, ◌+◌, ◌-◌, ◌<◌}
 use native.Mathlib.Omega.{arith}
-use lib.Arith.{digits_lt}
 use lib.Dec.{eqb}
 use Rattle.painter.specs.Picture.{between}
 use Rattle.painter.specs.Tag.{cell_at, module_bit, is_light}
 use Rattle.painter.specs.declared.Cell.{Cell}
 use Rattle.painter.proofs.Runs.{within}
 
-pub module_lt : (edge i j : ℕ) → i < edge → j < edge → i * edge + j < edge * edge
-module_lt edge i j hi hj = digits_lt hi hj
-
 module _ (edge border word : ℕ) where
   -- the borders are dark
-  pub row_dark : (c : Cell) → between border edge c.row ≡ false → is_light edge border word c ≡ false
-  unfolding is_light
-  row_dark c e = simp e
-
-  pub column_dark : (c : Cell) → between border edge c.column ≡ false → is_light edge border word c ≡ false
-  unfolding is_light
-  column_dark c e = simp e (and-false (between border edge c.row))
-
   pub outside_dark : (c : Cell) → between border edge c.row && between border edge c.column ≡ false → is_light edge border word c ≡ false
   unfolding is_light
   outside_dark c e =

@@ -1,16 +1,18 @@
 -- What a print that refusal 14 lets through is like. Assumes nothing.
 use mathlib.Core.Path.{◌≡◌}
-use mathlib.Core.Bool.{false, ◌||◌}
+use mathlib.Core.Bool.{false, ◌||◌, and-true}
+use mathlib.Core.List.{[], ◌∷◌}
 use Prim.Native.Nat.{ℕ, ◌+◌, ◌*◌, ◌^◌, ◌<◌, ◌≤◌}
-use native.Mathlib.Nat.{mul-le-mul, mul-le-mul_right}
+use native.Mathlib.Nat.{mul-le-mul_right}
 use native.Mathlib.Omega.{arith}
 use borrow.Author.Tests.{ltb-true, ltb-false, not-false}
 use lib.Dec.{ltb}
 use Rattle.lists.proofs.Bools.{or_left, or_right}
 use Rattle.lists.proofs.Grid.{next_row}
+use Rattle.lists.specs.Tab.{all}
 use Rattle.refusals.specs.declared.Frame.{Frame}
 use Rattle.refusals.proofs.Pixels.{Framed, good_frame}
-use Rattle.tables.specs.Table.{outside, in_square}
+use Rattle.tables.specs.Table.{outside, in_square, bad_edge, bad_border}
 use Rattle.tables.proofs.Table.{Within, good_edge, good_border}
 use Rattle.painter.specs.Tag.{side_of, size_of}
 use Rattle.painter.specs.Printable.{bad_word, bad_style, ends_late, bad_place, bad_print, Printable}
@@ -58,25 +60,53 @@ pub record Good (len : ℕ) (frame : Frame) (edge border word : ℕ) (print : Pr
   pub style : Style print
   pub placed : Placed frame edge border print
 
-pub Good-print : {len : ℕ} {frame : Frame} {edge border word : ℕ} {print : Print} → Printable len frame edge border word print → Good len frame edge border word print
+-- what refusal 14 tests, part by part
+pub record Parts (frame : Frame) (edge border word : ℕ) (print : Print) : Type 0 where
+  pub words : bad_word edge word ≡ false
+  pub styles : bad_style print ≡ false
+  pub placed : bad_place frame edge border print ≡ false
+
+pub print_parts : (frame : Frame) (edge border word : ℕ) (print : Print) → bad_print frame edge border word print ≡ false → Parts frame edge border word print
 unfolding bad_print
-Good-print {len} {frame} {edge} {border} {word} {print} p =
+print_parts frame edge border word print e =
     let w = bad_word edge word in
     let s = bad_style print in
     let q = bad_place frame edge border print in
-    let r = or_right w (s || q) p.prints in
+    let r = or_right w (s || q) e in
+    record { words = or_left w (s || q) e; styles = or_left s q r; placed = or_right s q r }
+
+pub Good-print : {len : ℕ} {frame : Frame} {edge border word : ℕ} {print : Print} → Printable len frame edge border word print → Good len frame edge border word print
+Good-print {len} {frame} {edge} {border} {word} {print} p =
+    let t = print_parts frame edge border word print p.prints in
     record {
       framed = good_frame p.planes;
       edges = good_edge edge p.edges;
       borders = good_border border p.borders;
-      words = ltb-true word (2 ^ (edge * edge)) (not-false (in_square edge word) (or_left w (s || q) p.prints));
-      style = good_style print (or_left s q r);
-      placed = good_place frame edge border print (or_right s q r);
+      words = ltb-true word (2 ^ (edge * edge)) (not-false (in_square edge word) t.words);
+      style = good_style print t.styles;
+      placed = good_place frame edge border print t.placed;
     }
 
--- the tag is at most 16 cells of 64 pixels wide
-pub size_le : (edge border : ℕ) (print : Print) → edge ≤ 8 → border ≤ 4 → print.cell ≤ 64 → size_of edge border print ≤ 1024
-size_le edge border print e b c = let side : side_of edge border ≤ 16 = omega arith in mul-le-mul side c
+-- the test of one word
+pub one_word : (edge word : ℕ) → all (in_square edge) (word ∷ []) ≡ in_square edge word
+unfolding all
+one_word edge word = and-true (in_square edge word)
+
+-- the tag has this row of cells, and its numbers are small enough to work out the row's line
+pub record RowOf (edge border : ℕ) (print : Print) (row : ℕ) : Type 0 where
+  pub edges : edge ≤ 8
+  pub borders : border ≤ 4
+  pub some : 0 < print.cell
+  pub small : print.cell ≤ 64
+  pub turns : print.turn ≤ 3
+  pub inside : row < side_of edge border
+
+-- what the tag's own facts say of each of its rows of cells
+pub row_of : (edge border : ℕ) (print : Print) (row : ℕ) → bad_edge edge ≡ false → bad_border border ≡ false → bad_style print ≡ false
+    → row < side_of edge border → RowOf edge border print row
+row_of edge border print row e b p h =
+    let s = good_style print p in
+    record { edges = (good_edge edge e).most; borders = (good_border border b).most; some = s.some; small = s.small; turns = s.turns; inside = h }
 
 -- n cells and one more are no more than m of them
 pub cells_le : (n m cell : ℕ) → n < m → n * cell + cell ≤ m * cell

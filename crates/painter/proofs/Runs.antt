@@ -1,14 +1,18 @@
 -- Runs of numbers, and the loops that write a run of bytes. Assumes nothing.
 use mathlib.Core.Path.{◌≡◌, refl, sym, ap, ap₂, ◌∙◌}
-use mathlib.Core.Bool.{Bool, true, false, ◌&&◌, ◌||◌, cond, or-false}
+use mathlib.Core.Bool.{Bool, true, false, ◌&&◌, ◌||◌, cond}
 use mathlib.Core.List.{List}
 use Prim.Native.Nat.{ℕ, ◌+◌, ◌-◌, ◌<◌, ◌≤◌}
 use native.Mathlib.Nat.{add_assoc}
 use native.Mathlib.Omega.{arith}
-use borrow.Author.Tests.{lt-ltb, le-ltb, le-leb, lt-leb, ltb-true, ltb-false, leb-true, eqb-true, eqb-false}
-use lib.Dec.{ltb, leb, eqb}
-use lib.ListN.{length, get_or, set, length-set}
-use lib.Seq.{ext_get_or, get_or-set_same, get_or-set_other}
+use borrow.Author.Tests.{lt-ltb, le-ltb, le-leb, lt-leb, ltb-true, ltb-false, leb-true}
+use lib.Dec.{ltb, leb}
+use lib.ListN.{length, get_or}
+use lib.Seq.{ext_get_or}
+use borrow.Author.Rules.{rules}
+use borrow.Rule.Slice.PartMut.{put_mid}
+use Rattle.std.proofs.lemmas.Grind.{common_steps}
+use Rattle.std.proofs.lemmas.List.{places}
 use Rattle.lists.specs.Tab.{tabulate}
 use Rattle.lists.proofs.Tab.{length-tabulate, get_or-tabulate}
 use Rattle.lists.proofs.Bools.{and_left, and_right, overlay}
@@ -40,14 +44,6 @@ between_none x0 x = go (ltb x x0) refl
     go : (t : Bool) → ltb x x0 ≡ t → between x0 0 x ≡ false
     go true e = before_run x0 0 x (ltb-true x x0 e)
     go false e = let h = ltb-false x x0 e in after_run x0 0 x (omega arith)
-
--- a run of one
-between_one : (x0 x : ℕ) → (x ≡ x0 → ⊥) → between x0 1 x ≡ false
-between_one x0 x ne = go (ltb x x0) refl
-  where
-    go : (t : Bool) → ltb x x0 ≡ t → between x0 1 x ≡ false
-    go true e = before_run x0 1 x (ltb-true x x0 e)
-    go false e = let h = ltb-false x x0 e in after_run x0 1 x (omega arith)
 
 -- one run after another
 pub between_more : (x0 n m x : ℕ) → between x0 (n + m) x ≡ between x0 n x || between (x0 + n) m x
@@ -90,26 +86,27 @@ module _ (start : ℕ) (new : ℕ → ℕ) (bytes : List ℕ) where
   pub run_none : bytes ≡ run_written start 0 new bytes
   run_none = tabulated (byte 0) (length bytes) bytes refl (λ k b. sym (ap (λ (t : Bool). cond t (new (k - start)) (get_or bytes k 0)) (between_none start k)))
 
-  -- one byte more is written
-  pub run_more : (n v : ℕ) → start + n < length bytes → v ≡ new n → set (run_written start n new bytes) (start + n) v ≡ run_written start (n + 1) new bytes
-  run_more n v h q =
-      tabulated (byte (n + 1)) (length bytes) (set (run_written start n new bytes) (start + n) v)
-      (length-set (run_written start n new bytes) (start + n) v ∙ length_run n)
-      (λ k b. at k b (eqb k (start + n)) refl)
+  -- the run is written as one part of the bytes
+  pub part_written : (k n : ℕ) (ys : List ℕ) → k ≡ n → start + n ≤ length bytes → length ys ≡ n → ((i : ℕ) → i < n → get_or ys i 0 ≡ new i)
+      → put_mid start k bytes ys ≡ run_written start n new bytes
+  part_written k n ys e h l is =
+      tabulated (byte n) (length bytes) (put_mid start k bytes ys) (grind (arith, common_steps)) (λ i b. at i b (ltb i start) refl (ltb i (start + n)) refl)
     where
-      at : (k : ℕ) → k < length bytes → (t : Bool) → eqb k (start + n) ≡ t → get_or (set (run_written start n new bytes) (start + n) v) k 0 ≡ byte (n + 1) k
-      at k b true e =
-          let p = eqb-true k (start + n) e in
-          let i : n ≡ k - start = omega arith in
-          ap (λ (i : ℕ). get_or (set (run_written start n new bytes) (start + n) v) i 0) p
-          ∙ get_or-set_same (run_written start n new bytes) (start + n) v 0 (rw length_run h)
-          ∙ q ∙ ap new i
-          ∙ sym (ap (λ (t : Bool). cond t (new (k - start)) (get_or bytes k 0)) (within start (n + 1) k (omega arith) (omega arith)))
-      at k b false e =
-          let ne = eqb-false k (start + n) e in
-          get_or-set_other (run_written start n new bytes) (start + n) k v 0 ne ∙ byte_run n k b
-          ∙ sym (ap (λ (t : Bool). cond t (new (k - start)) (get_or bytes k 0))
-          (between_more start n 1 k ∙ ap (λ (t : Bool). between start n k || t) (between_one (start + n) k ne) ∙ or-false (between start n k)))
+      at : (i : ℕ) → i < length bytes → (t : Bool) → ltb i start ≡ t → (u : Bool) → ltb i (start + n) ≡ u → get_or (put_mid start k bytes ys) i 0 ≡ byte n i
+      at i b true q u r =
+          let p = ltb-true i start q in
+          (let q : get_or (put_mid start k bytes ys) i 0 ≡ get_or bytes i 0 = search (rules, places) in q)
+          ∙ sym (ap (λ (t : Bool). cond t (new (i - start)) (get_or bytes i 0)) (before_run start n i p))
+      at i b false q true r =
+          let p = ltb-false i start q in
+          let m = ltb-true i (start + n) r in
+          (let q : get_or (put_mid start k bytes ys) i 0 ≡ get_or ys (i - start) 0 = search (rules, places) in q)
+          ∙ is (i - start) (omega arith)
+          ∙ sym (ap (λ (t : Bool). cond t (new (i - start)) (get_or bytes i 0)) (within start n i p m))
+      at i b false q false r =
+          let m = ltb-false i (start + n) r in
+          (let q : get_or (put_mid start k bytes ys) i 0 ≡ get_or bytes i 0 = search (rules, places) in q)
+          ∙ sym (ap (λ (t : Bool). cond t (new (i - start)) (get_or bytes i 0)) (after_run start n i m))
 
 -- ---- runs from the first byte on
 

@@ -1,18 +1,9 @@
 -- A part of the tag, as the functions that draw its rows of cells one after another promise it. Assumes nothing.
-use Rattle.std.specs.Prelude.{ℕ, ◌/◌, ◌<◌, ◌≤◌, cond, List}
+use Rattle.std.specs.Prelude.{ℕ, ◌/◌, cond, List}
 use Rattle.lists.specs.Tab.{tabulate}
 use Rattle.painter.specs.Picture.{in_block}
-use Rattle.painter.specs.Tag.{side_of, cell_at, shade_of, cell_of, size_of}
+use Rattle.painter.specs.Tag.{cell_at, shade_of, cell_of, size_of}
 use Rattle.painter.specs.declared.Print.{Print}
-
--- the tag has this row of cells, and its numbers are small enough to work out the row's line
-pub record RowOf (edge border : ℕ) (print : Print) (row : ℕ) : Type 0 where
-  pub edges : edge ≤ 8
-  pub borders : border ≤ 4
-  pub some : 0 < print.cell
-  pub small : print.cell ≤ 64
-  pub turns : print.turn ≤ 3
-  pub inside : row < side_of edge border
 
 -- the shade of pixel k of a line through that row, counted from the tag's left side
 abbrev pub row_shade : (edge border word : ℕ) → Print → (row k : ℕ) → ℕ

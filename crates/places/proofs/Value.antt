@@ -4,10 +4,10 @@ use mathlib.Core.Bool.{Bool, true, false, true≢false}
 use Prim.Native.Nat.{ℕ, zero, suc, ◌+◌, ◌*◌, ◌/◌, ◌<◌, ◌≤◌}
 use native.Mathlib.Nat.{div-eq_of_lt, mul-div-mul_right, mul-le-mul_right, mul-lt-mul_of_pos_right, le_of_mul-le-mul_right, lt_of_mul-lt-mul_right}
 use native.Mathlib.Omega.{arith}
-use borrow.Author.Tests.{ltb-true, leb-true, leb-false, le-leb, lt-leb}
-use lib.Dec.{T, leb, lit<}
+use borrow.Author.Tests.{leb-true, leb-false, le-leb, lt-leb}
+use lib.Dec.{leb, lit<}
 use lib.IntN.{ℤ, pos, negsuc, nat_abs}
-use lib.Signed.{lt_z, non_neg}
+use lib.Signed.{lt_z}
 use lib.Ieee.{Float, nan, inf, fin, up, down}
 use lib.Ieee.Exact.{HasValue}
 use lib.Ieee.Nearest.{div_same}
@@ -45,15 +45,7 @@ pub pixel_negative : (n d : ℕ) → 0 < d → to_pixel (signed true n) d ≡ 0
 pixel_negative zero d D = nearest_small 0 d D
 pixel_negative (suc n) d D = refl
 
--- a fraction by the sign of its dividend
-pub below_zero : (z : ℤ) (d : ℕ) → lt_z z (pos 0) ≡ true → 0 ≡ to_pixel z d
-below_zero (pos n) d e = let h = ltb-true n 0 e in absurd (omega arith)
-below_zero (negsuc n) d e = refl
-
-pub not_below : (z : ℤ) → lt_z z (pos 0) ≡ false → T (non_neg z)
-not_below (pos n) e = tt
-not_below (negsuc n) e = absurd (true≢false e)
-
+-- a fraction whose dividend is not negative, with an even divisor
 pub not_below_pixel : (z : ℤ) (h : ℕ) → lt_z z (pos 0) ≡ false → (nat_abs z + h) / (2 * h) ≡ to_pixel z (2 * h)
 not_below_pixel (pos n) h e = sym (nearest_even n h)
 not_below_pixel (negsuc n) h e = absurd (true≢false e)

@@ -1,4 +1,4 @@
-// Corners: "a corner is a struct of two floats", and a quad is four of them. y grows downward.
+//! Corners: "a corner is a struct of two floats", and a quad is four of them. y grows downward.
 #![tactic(auto)]
 
 ghost use Rattle.std.specs.Prelude.{◌≡◌, [], ◌∷◌, ◌+◌, ◌*◌, ◌≤◌, length};
@@ -6,16 +6,18 @@ ghost use Rattle.std.proofs.lemmas.List.Edits.{sets};
 ghost use Rattle.points.specs.Turned.{turned_left, reversed, answer_corners};
 ghost use Rattle.points.specs.Numbers.{quad_size, point_at, quad_at, numbers_of};
 
-// The numbers of a quad: x0 y0 x1 y1 x2 y2 x3 y3.
+/// The numbers of a quad: x0 y0 x1 y1 x2 y2 x3 y3.
 pub const QUAD_SIZE: usize = 8;
 
-#[derive(Clone, Copy)]
+/// A corner, in pixels.
+#[derive(Clone, Copy, Debug, PartialEq)]
 pub struct Point {
     pub x: f32,
     pub y: f32,
 }
 
-#[derive(Clone, Copy)]
+/// The four corners of a tag, one after the other round it.
+#[derive(Clone, Copy, Debug, PartialEq)]
 pub struct Quad {
     pub q0: Point,
     pub q1: Point,
@@ -23,14 +25,11 @@ pub struct Quad {
     pub q3: Point,
 }
 
-// The quad turned left by `turn`: start `turn` of it, for a turn from 0 to 3.
+/// The quad turned left by `turn`: start `turn` of it, for a turn from 0 to 3.
 pub fn rotate_left(quad: Quad, turn: u8) -> Quad
     ensures { result ≡ turned_left turn quad }
 {
-    let q0 = quad.q0;
-    let q1 = quad.q1;
-    let q2 = quad.q2;
-    let q3 = quad.q3;
+    let Quad { q0, q1, q2, q3 } = quad;
     match turn % 4 {
         0 => quad,
         1 => Quad {
@@ -57,10 +56,7 @@ pub fn rotate_left(quad: Quad, turn: u8) -> Quad
 fn reverse(quad: Quad) -> Quad
     ensures { result ≡ reversed quad }
 {
-    let q0 = quad.q0;
-    let q1 = quad.q1;
-    let q2 = quad.q2;
-    let q3 = quad.q3;
+    let Quad { q0, q1, q2, q3 } = quad;
     Quad {
         q0: q3,
         q1: q2,
@@ -69,7 +65,7 @@ fn reverse(quad: Quad) -> Quad
     }
 }
 
-// The corners of a tag that is read at a turn.
+/// The corners of a tag that is read at a turn.
 pub fn answer_corners(quad: Quad, turn: u8) -> Quad
     ensures { result ≡ answer_corners quad turn }
 {
@@ -87,7 +83,7 @@ fn point_at(numbers: &[f32], at: usize) -> Point
     }
 }
 
-// Quad q of a list.
+/// Quad q of a list.
 pub fn quad_at(quads: &[f32], q: usize) -> Quad
     requires { quad_size * q + quad_size ≤ length quads.now }
     ensures { result ≡ quad_at quads.now q }
@@ -109,7 +105,7 @@ fn put_point(numbers: &mut [f32], at: usize, p: Point)
     numbers[at + 1] = p.y;
 }
 
-// A quad's eight numbers, as quad q of a list.
+/// A quad's eight numbers, as quad q of a list.
 pub fn put_quad(quads: &mut [f32], q: usize, quad: Quad)
     requires { quad_size * q + quad_size ≤ length quads.old }
     ensures { quads.new ≡ sets quads.old (quad_size * q) (numbers_of quad) }

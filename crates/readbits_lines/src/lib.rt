@@ -1,121 +1,94 @@
 // What `readbits` prints for the bytes that it has read.
 #![tactic(auto)]
 
-ghost use Rattle.std.specs.Prelude.{◌≡◌, cond, [], ◌∷◌, ◌++◌, ◌+◌, ◌*◌, ◌≤◌, ◌<◌, ◌≢◌, ℕ, length, slice_index};
+ghost use Rattle.std.specs.Prelude.{◌≡◌, Some, None, cond, [], ◌∷◌, ◌++◌, ◌+◌, ◌*◌, ◌≤◌, length};
 ghost use Rattle.readbits_lines.specs.Word.{is_digit, digit_number, is_word, number_of};
 ghost use Rattle.text.specs.Text.{line_feed};
-ghost use Rattle.search.specs.Answer.{paper_found};
+ghost use Rattle.search.specs.Answer.{paper_match};
 ghost use Rattle.readbits_lines.specs.Readbits.{searched, after_word, printed_line, readbits};
-ghost use Rattle.text.specs.Put.{Put, Printed};
+ghost use Rattle.text.specs.Put.{Put, HasRoom, Printed};
 
-use search::Found;
-use tag_families::codes::CODES;
-use text::{put, put_byte, put_number};
+use search::Match;
+use text::Output;
 
-// What a digit or a line stands for.
-#[derive(Clone, Copy)]
-enum Hex {
-    Number(u64),
-    Bad,
-}
-
-// "four digits 0 to 9 or A to F"
-fn digit(byte: u8) -> Hex
-    ensures { result ≡ cond (is_digit byte) (Hex.Number (digit_number byte)) Hex.Bad }
+// The number of a digit, "0 to 9 or A to F".
+fn digit(byte: u8) -> Option<u64>
+    ensures { result ≡ cond (is_digit byte) (Some (digit_number byte)) None }
 {
     match byte {
-        b'0'..=b'9' => Hex::Number((byte - b'0') as u64),
-        b'A'..=b'F' => Hex::Number((byte - b'A' + 10) as u64),
-        _ => Hex::Bad,
+        b'0'..=b'9' => Some((byte - b'0') as u64),
+        b'A'..=b'F' => Some((byte - b'A' + 10) as u64),
+        _ => None,
     }
 }
 
-// The word of a line.
-fn word(line: &[u8]) -> Hex
-    ensures { result ≡ cond (is_word line.now) (Hex.Number (number_of line.now)) Hex.Bad }
+// The word of a line, "four digits".
+fn word(line: &[u8]) -> Option<u64>
+    ensures { result ≡ cond (is_word line.now) (Some (number_of line.now)) None }
 {
     if line.len() != 4 {
-        return Hex::Bad;
+        return None;
     }
-    let mut bits: u64 = 0;
-    let mut i = 0;
-    while i < line.len() {
-        let Hex::Number(d) = digit(line[i]) else {
-            return Hex::Bad;
-        };
-        bits = bits * 16 + d;
-        i += 1;
+    let mut bits = 0;
+    for byte in line {
+        bits = bits * 16 + digit(*byte)?;
     }
-    Hex::Number(bits)
+    Some(bits)
 }
 
 // The search for a word among the codes of T16H5, which is family 0.
-fn search_t16h5(bits: u64) -> Found
-    ensures { paper_found result ≡ searched bits }
+fn search_t16h5(bits: u64) -> Option<Match>
+    ensures { paper_match result ≡ searched bits }
 {
     let family = tag_families::family(0);
-    let all = CODES;
-    let codes = tag_families::codes_of(0, &all);
-    search::best_tag(bits, family.hamming_distance, codes, family.edge)
+    let codes = tag_families::codes_of(0);
+    search::best_tag(bits, family.hamming_distance, codes, family.edge).found
 }
 
 // Puts what follows a word, id and turn or `none`, and ends the line.
-fn put_answer(bits: u64, out: &mut [u8], at: usize) -> usize
-    requires { at + 7 ≤ length out.old }
-    ensures { Put (after_word (searched bits) ++ (line_feed ∷ [])) out.old at out.new result }
+fn put_answer(bits: u64, output: &mut Output)
+    requires { HasRoom output.old 7 }
+    ensures { Put (after_word (searched bits) ++ (line_feed ∷ [])) output.old output.new }
 {
-    let Found::Tag {
-        id,
-        turn,
-        differing: _,
-        compared: _,
-    } = search_t16h5(bits)
-    else {
-        return put(b" none\n", out, at);
+    let Some(tag) = search_t16h5(bits) else {
+        output.put(b" none\n");
+        return;
     };
-    let id_end = put_number(id as u8, out, at);
-    let turn_end = put_number(turn, out, id_end);
-    put_byte(b'\n', out, turn_end)
+    output.put_number(tag.id as u8);
+    output.put_number(tag.turn);
+    output.put_byte(b'\n');
 }
 
 // Puts what a line prints.
-fn put_line(line: &[u8], out: &mut [u8], at: usize) -> usize
-    requires { (at + 4 ≤ length out.old) × (at + 4 * length line.now ≤ length out.old) }
-    ensures { Put (printed_line line.now) out.old at out.new result }
+fn put_line(line: &[u8], output: &mut Output)
+    requires { HasRoom output.old 4 × HasRoom output.old (4 * length line.now) }
+    ensures { Put (printed_line line.now) output.old output.new }
 {
-    let Hex::Number(bits) = word(line) else {
-        return put(b"bad\n", out, at);
+    let Some(bits) = word(line) else {
+        output.put(b"bad\n");
+        return;
     };
-    let word_end = put(line, out, at);
-    put_answer(bits, out, word_end)
+    output.put(line);
+    put_answer(bits, output);
 }
 
-// Where the line that starts at `at` ends: at its line feed, or at the end of the input.
-fn line_end(input: &[u8], at: usize) -> usize
-    requires { at ≤ length input.now }
-    ensures within { (at ≤ result) × (result ≤ length input.now) }
-    ensures before { (k : ℕ) → at ≤ k → k < result → slice_index input.now k ≢ line_feed }
-    ensures feed { result < length input.now → slice_index input.now result ≡ line_feed }
-{
-    let mut end = at;
-    while end < input.len() && input[end] != b'\n' {
-        end += 1;
-    }
-    end
-}
-
-// Prints `input` into `out`, and gives the number of bytes printed. No line prints more than four bytes for each byte
-// that it has, its line feed or the end counted: `bad` and a line feed for an empty line is the most.
+/// Prints `input` into `out`, and gives the number of bytes printed. No line prints more than four bytes for each byte
+/// that it has, its line feed or the end counted: `bad` and a line feed for an empty line is the most.
 pub fn read_lines(input: &[u8], out: &mut [u8]) -> usize
     requires { 4 * length input.now ≤ length out.old }
     ensures { Printed (readbits input.now) out.old out.new result }
 {
-    let mut at = 0;
-    let mut done = 0;
-    while at < input.len() {
-        let end = line_end(input, at);
-        done = put_line(&input[at..end], out, done);
-        at = end + 1;
+    let mut output = Output { bytes: out, at: 0 };
+    let mut start = 0;
+    for (at, byte) in input.iter().enumerate() {
+        let ends_line = *byte == b'\n';
+        if ends_line {
+            put_line(&input[start..at], &mut output);
+            start = at + 1;
+        }
     }
-    done
+    if start < input.len() {
+        put_line(&input[start..], &mut output);
+    }
+    output.at
 }

@@ -1,21 +1,17 @@
 -- The refusals of a reading in their order, and what is left after them. Assumes nothing.
-use mathlib.Core.Path.{◌≡◌}
+use mathlib.Core.Path.{◌≡◌, ap, ◌∙◌}
 use mathlib.Core.Bool.{Bool, true, false, not, cond}
 use mathlib.Core.List.{List}
 use Prim.Native.Nat.{ℕ}
-use lib.ListN.{length}
-use Rattle.refusals.specs.Outcome.{Outcome, refused}
-use Rattle.refusals.specs.Pixels.{bad_frame}
+use Rattle.refusals.specs.Outcome.{Outcome, accepted, refused}
 use Rattle.refusals.specs.declared.Frame.{Frame}
 use Rattle.points.specs.declared.Quad.{Quad}
-use Rattle.tables.specs.Table.{bad_table}
 use Rattle.tables.specs.declared.Family.{Family}
-use Rattle.tables.proofs.Table.{good_table}
 use Rattle.places.specs.Corners.{bad_corners, corners_outside}
 use Rattle.places.specs.Place.{axes_of}
 use Rattle.levels.specs.Levels.{code_of}
-use Rattle.reader.specs.Reading.{samples_inside, levels_of, Tag, tag_of, reading}
-use Rattle.reader.specs.Sampling.{Readable}
+use Rattle.reader.specs.Reading.{samples_inside, levels_of, Tag, with_corners, tag_of, reading}
+use Rattle.search.specs.Search.{search}
 
 module _ (plane : List ℕ) (frame : Frame) (family : Family) (codes : List ℕ) (quad : Quad) where
   -- what the word of the levels shows
@@ -41,6 +37,18 @@ module _ (plane : List ℕ) (frame : Frame) (family : Family) (codes : List ℕ)
       unfolding reading
       reading_on c = simp (good, within, c)
 
+      module _ (inside : samples_inside frame family (axes_of quad) ≡ true) where
+        -- 11 and 12, of the levels
+        pub reading_levels : (n : ℕ) → code_of (levels_of plane frame family (axes_of quad)) 10 3 ≡ refused n → reading plane frame family codes quad ≡ refused n
+        unfolding tag_of
+        reading_levels n e = reading_on inside ∙ ap (tag_of family codes quad) e
+
+        -- 13 or a tag, of the word that they make
+        pub reading_word : (w : ℕ) → code_of (levels_of plane frame family (axes_of quad)) 10 3 ≡ accepted w
+            → reading plane frame family codes quad ≡ with_corners quad (search w family.hamming_distance codes family.edge)
+        unfolding tag_of
+        reading_word w e = reading_on inside ∙ ap (tag_of family codes quad) e
+
   -- what holds of 8, of 9, of 10 and of what the word of the levels shows holds of a reading
   pub reading_cases : (P : Outcome Tag → Type 0) → P (refused 8) → P (refused 9) → P (refused 10)
       → P rest → P (reading plane frame family codes quad)
@@ -52,14 +60,3 @@ module _ (plane : List ℕ) (frame : Frame) (family : Family) (codes : List ℕ)
       go false true c = p9
       go false false false = p10
       go false false true = p
-
--- a plane and a table that refusals 1 and 6 let through
-pub readable : (plane : List ℕ) (frame : Frame) (family : Family) (codes : List ℕ) → bad_frame (length plane) frame ≡ false → bad_table family codes ≡ false → Readable plane frame family
-readable plane frame family codes p t =
-    let f = good_table family codes t in
-    record {
-      framed = p;
-      edge_pos = f.coded.edges.least;
-      edge_le = f.coded.edges.most;
-      border_le = f.borders.most;
-    }

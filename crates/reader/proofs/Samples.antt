@@ -2,6 +2,7 @@
 use mathlib.Core.Path.{◌≡◌, refl, sym, ap, ap₂, ◌∙◌, subst}
 use mathlib.Core.Bool.{Bool, true, false, ◌&&◌, cond, and-false, true≢false}
 use mathlib.Core.List.{List}
+use Rattle.std.specs.Prelude.{Option, Some, None}
 use Prim.Native.Nat.{ℕ, ◌+◌, ◌*◌, ◌<◌, ◌≤◌}
 use borrow.Author.Tests.{lt-ltb, le-ltb}
 use lib.Arith.{digits_lt}
@@ -27,8 +28,6 @@ use Rattle.places.specs.Place.{side_of, axes_of, module_pixel, sample_pixel}
 use Rattle.places.proofs.Small.{axes_small}
 use Rattle.reader.specs.Reading.{samples, column, row, sample_inside, samples_inside, levels_of}
 use Rattle.reader.specs.Sampling.{SmallAxes, sample_of, Sampled}
-use Rattle.reader.specs.declared.Sample.{Sample}
-use Rattle.reader.specs.declared.Sample.TheVariants.{Level, Outside}
 
 -- the sample at row i and column j of the square
 pub sample_place : (axis : Axis) (edge border i j : ℕ) → j < edge → sample_pixel axis edge border (i * edge + j) ≡ module_pixel axis (side_of edge border) (border + i) (border + j)
@@ -36,29 +35,29 @@ sample_place axis edge border i j h =
     ap₂ (λ (a b : ℕ). module_pixel axis (side_of edge border) (border + a) (border + b)) (row_of edge i j h) (column_of_lem edge i j h)
 
 module _ (plane : List ℕ) (frame : Frame) (family : Family) (axes : Axes) (k x y : ℕ) (ex : x ≡ column axes family k) (ey : y ≡ row axes family k) where
-  abbrev picked : Bool → Sample
-  picked t = cond t (Level (level_at plane frame (column axes family k) (row axes family k))) Outside
+  abbrev picked : Bool → Option ℕ
+  picked t = cond t (Some (level_at plane frame (column axes family k) (row axes family k))) None
 
   inside_is : ltb x frame.width && ltb y frame.height ≡ sample_inside frame family axes k
   inside_is = ap₂ (λ (a b : ℕ). ltb a frame.width && ltb b frame.height) ex ey
 
-  pub outside_x : frame.width ≤ x → Outside ≡ sample_of plane frame family axes k
+  pub outside_x : frame.width ≤ x → None ≡ sample_of plane frame family axes k
   unfolding sample_of
   outside_x h = sym (ap picked (sym inside_is ∙ ap (λ (t : Bool). t && ltb y frame.height) (le-ltb x frame.width h)))
 
-  pub outside_y : frame.height ≤ y → Outside ≡ sample_of plane frame family axes k
+  pub outside_y : frame.height ≤ y → None ≡ sample_of plane frame family axes k
   unfolding sample_of
   outside_y h = sym (ap picked (sym inside_is ∙ ap (λ (t : Bool). ltb x frame.width && t) (le-ltb y frame.height h) ∙ and-false (ltb x frame.width)))
 
-  pub within : x < frame.width → y < frame.height → Level (level_at plane frame x y) ≡ sample_of plane frame family axes k
+  pub within : x < frame.width → y < frame.height → Some (level_at plane frame x y) ≡ sample_of plane frame family axes k
   unfolding sample_of
   within hx hy =
-      ap₂ (λ (a b : ℕ). Level (level_at plane frame a b)) ex ey
+      ap₂ (λ (a b : ℕ). Some (level_at plane frame a b)) ex ey
       ∙ sym (ap picked (sym inside_is ∙ ap₂ ◌&&◌ (lt-ltb x frame.width hx) (lt-ltb y frame.height hy)))
 
 -- a row and a column of the square are one of its places, of which there are at most 64
-pub place_in : (edge i j k : ℕ) → edge ≤ 8 → i < edge → j < edge → k ≡ i * edge + j → (k < edge * edge) × (k < 64)
-place_in edge i j k h hi hj e = (subst (λ (n : ℕ). n < edge * edge) (sym e) (digits_lt hi hj), omega (arith, place_lt edge i j h hi hj))
+pub place_in : (edge i j : ℕ) → edge ≤ 8 → i < edge → j < edge → (i * edge + j < edge * edge) × (i * edge + j < 64)
+place_in edge i j h hi hj = (digits_lt hi hj, omega (arith, place_lt edge i j h hi hj))
 
 -- the axes of a quad that refusal 8 lets through
 pub small_axes : (quad : Quad) (axes : Axes) → bad_corners quad ≡ false → axes ≡ axes_of quad → SmallAxes axes
@@ -76,35 +75,35 @@ pub record SoFar (plane : List ℕ) (frame : Frame) (family : Family) (axes : Ax
   pub size : length levels ≡ 64
 
 module _ (plane : List ℕ) (frame : Frame) (family : Family) (axes : Axes) where
-  pub SoFar-none : (levels : List ℕ) → length levels ≡ 64 → SoFar plane frame family axes 0 levels
-  SoFar-none levels h = record { all_inside = sym (each_none (sample_inside frame family axes)); written = written_none (level_of plane frame family axes) levels; size = h }
+  pub SoFar-none : (k : ℕ) (levels : List ℕ) → k ≡ 0 → length levels ≡ 64 → SoFar plane frame family axes k levels
+  SoFar-none k levels e h = subst (λ (n : ℕ). SoFar plane frame family axes n levels) (sym e) (record { all_inside = sym (each_none (sample_inside frame family axes)); written = written_none (level_of plane frame family axes) levels; size = h })
 
-  level_is : (k v : ℕ) → Level v ≡ sample_of plane frame family axes k → (sample_inside frame family axes k ≡ true) × (v ≡ level_of plane frame family axes k)
+  level_is : (k v : ℕ) → Some v ≡ sample_of plane frame family axes k → (sample_inside frame family axes k ≡ true) × (v ≡ level_of plane frame family axes k)
   unfolding sample_of
   level_is k v = go (sample_inside frame family axes k)
     where
-      go : (t : Bool) → Level v ≡ cond t (Level (level_at plane frame (column axes family k) (row axes family k))) Outside → (t ≡ true) × (v ≡ level_at plane frame (column axes family k) (row axes family k))
+      go : (t : Bool) → Some v ≡ cond t (Some (level_at plane frame (column axes family k) (row axes family k))) None → (t ≡ true) × (v ≡ level_at plane frame (column axes family k) (row axes family k))
       go true e = (refl, cc)
       go false e = let z : ◌≡◌ {A = ℕ} 0 1 = cc in absurd (omega arith)
 
-  outside_is : (k : ℕ) → Outside ≡ sample_of plane frame family axes k → sample_inside frame family axes k ≡ false
+  outside_is : (k : ℕ) → None ≡ sample_of plane frame family axes k → sample_inside frame family axes k ≡ false
   unfolding sample_of
   outside_is k = go (sample_inside frame family axes k)
     where
-      go : (t : Bool) → Outside ≡ cond t (Level (level_at plane frame (column axes family k) (row axes family k))) Outside → t ≡ false
+      go : (t : Bool) → None ≡ cond t (Some (level_at plane frame (column axes family k) (row axes family k))) None → t ≡ false
       go true e = let z : ◌≡◌ {A = ℕ} 0 1 = cc in absurd (omega arith)
       go false e = refl
 
-  pub SoFar-more : (k v : ℕ) (levels : List ℕ) → k < 64 → Level v ≡ sample_of plane frame family axes k → SoFar plane frame family axes k levels → SoFar plane frame family axes (k + 1) (set levels k v)
-  SoFar-more k v levels h e s =
+  pub SoFar-more : (k n v : ℕ) (levels : List ℕ) → n ≡ k + 1 → k < 64 → Some v ≡ sample_of plane frame family axes k → SoFar plane frame family axes k levels → SoFar plane frame family axes n (set levels k v)
+  SoFar-more k n v levels next h e s =
       let l = level_is k v e in
-      record {
+      subst (λ (m : ℕ). SoFar plane frame family axes m (set levels k v)) (sym next) (record {
         all_inside = each_more k (sample_inside frame family axes) true true (sym l.0) s.all_inside;
         written = written_more (level_of plane frame family axes) k levels v (omega (arith, s.size)) l.1 s.written;
         size = length-set levels k v ∙ s.size;
-      }
+      })
 
-  pub some_outside : (k : ℕ) (levels : List ℕ) → length levels ≡ 64 → k < samples family → Outside ≡ sample_of plane frame family axes k → Sampled plane frame family axes false levels
+  pub some_outside : (k : ℕ) (levels : List ℕ) → length levels ≡ 64 → k < samples family → None ≡ sample_of plane frame family axes k → Sampled plane frame family axes false levels
   unfolding samples_inside
   some_outside k levels z h e = record {
     inside = sym (each_fails (samples family) (sample_inside frame family axes) k h (outside_is k e));
@@ -127,3 +126,8 @@ part_size family levels p h z =
     let m : samples family ≤ 64 = mul-le-mul h h in
     let l : samples family ≤ length levels = omega arith in
     (l, sym (length-take-le (samples family) levels l), mul-pos p p, m)
+
+-- where all samples lie in the picture, the part of the array is their levels
+pub levels_are : {plane : List ℕ} {frame : Frame} {family : Family} {axes : Axes} {levels : List ℕ} (quad : Quad) → Sampled plane frame family axes true levels → axes ≡ axes_of quad
+    → (samples_inside frame family (axes_of quad) ≡ true) × (take (samples family) levels ≡ levels_of plane frame family (axes_of quad))
+levels_are {plane} {frame} {family} quad s e = (ap (samples_inside frame family) (sym e) ∙ sym s.inside, s.sampled refl ∙ ap (levels_of plane frame family) e)

@@ -1,13 +1,11 @@
 -- What the loop over the samples is lent, and what it leaves. Assumes nothing.
-use Rattle.std.specs.Prelude.{◌≡◌, Bool, true, false, cond, List, ℕ, ◌≤◌, ◌<◌, length, take}
+use Rattle.std.specs.Prelude.{◌≡◌, Bool, true, false, Option, Some, None, cond, List, ℕ, ◌≤◌, ◌<◌, length, take}
 use Rattle.refusals.specs.Pixels.{bad_frame, level_at}
 use Rattle.refusals.specs.declared.Frame.{Frame}
 use Rattle.tables.specs.declared.Family.{Family}
 use Rattle.places.specs.declared.Axes.{Axes}
 use Rattle.places.specs.Bounds.{SmallAxis}
 use Rattle.reader.specs.Reading.{samples, column, row, sample_inside, samples_inside, levels_of}
-use Rattle.reader.specs.declared.Sample.{Sample}
-use Rattle.reader.specs.declared.Sample.TheVariants.{Level, Outside}
 
 -- a plane and a family that refusals 1 and 6 let through
 pub record Readable (plane : List ℕ) (frame : Frame) (family : Family) : Type 0 where
@@ -22,9 +20,9 @@ pub record SmallAxes (axes : Axes) : Type 0 where
   pub y_small : SmallAxis axes.y
 
 -- the level at sample k, where that lies in the picture
-unfoldable pub sample_of : List ℕ → Frame → Family → Axes → ℕ → Sample
+unfoldable pub sample_of : List ℕ → Frame → Family → Axes → ℕ → Option ℕ
 sample_of plane frame family axes k =
-    cond (sample_inside frame family axes k) (Level (level_at plane frame (column axes family k) (row axes family k))) Outside
+    cond (sample_inside frame family axes k) (Some (level_at plane frame (column axes family k) (row axes family k))) None
 
 -- r says whether all samples lie in the picture; where they do, the levels come first in `levels`
 pub record Sampled (plane : List ℕ) (frame : Frame) (family : Family) (axes : Axes) (r : Bool) (levels : List ℕ) : Type 0 where

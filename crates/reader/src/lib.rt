@@ -1,23 +1,20 @@
-// Quad to tag: the samples of a quad on an 8-bit plane, their levels, the word that they make, and the code that it shows.
+//! Quad to tag: the samples of a quad on an 8-bit plane, their levels, the word that they make, and the code that it shows.
 #![tactic(auto)]
 
-ghost use Rattle.std.specs.Prelude.{◌≡◌, false, ◌+◌, ◌*◌, ◌≤◌, ◌<◌, length};
-ghost use Rattle.refusals.specs.Outcome.{accepted};
-ghost use Rattle.refusals.specs.Pixels.{bad_frame};
-ghost use Rattle.tables.specs.Table.{bad_table};
-ghost use Rattle.levels.specs.Levels.{code_of};
-ghost use Rattle.reader.specs.Reading.{tag_of, reading};
-ghost use Rattle.reader.specs.Answer.{paper_reading};
-ghost use Rattle.reader.specs.Sampling.{Readable, SmallAxes, sample_of, Sampled};
+ghost use Rattle.std.specs.Prelude.{◌≡◌, ◌+◌, ◌*◌, ◌≤◌, ◌<◌, is_ok, IfErr};
+ghost use Rattle.reader.specs.Reading.{with_corners, reading};
+ghost use Rattle.reader.specs.Answer.{paper_read, paper_reading};
+ghost use Rattle.reader.specs.Sampling.{SmallAxes, sample_of, Sampled};
 
-use levels::Bits;
-use places::Axes;
+use places::{Axes, Corners};
 use points::Quad;
-use refusals::Frame;
-use search::Found;
+use refusals::{Picture, Refusal};
+use search::Match;
 use tables::Family;
+use tables::checked::Table;
 
-#[derive(Clone, Copy)]
+/// What a reading of a quad answers: a tag with its corners, or the number of a refusal.
+#[derive(Clone, Copy, Debug, PartialEq)]
 pub enum Reading {
     Tag {
         id: usize,
@@ -28,116 +25,92 @@ pub enum Reading {
     Refused(u8),
 }
 
-// The level at a sample, where that lies in the picture.
-#[derive(Clone, Copy)]
-pub enum Sample {
-    Level(u8),
-    Outside,
+impl From<Refusal> for Reading {
+    ghost use Rattle.refusals.specs.Numbers.{number_of};
+    ghost use Rattle.reader.specs.declared.Reading.TheVariants.{Refused};
+
+    ghost from_gives = { λ refusal reading. reading ≡ Refused (number_of refusal) };
+
+    fn from(refusal: Refusal) -> Reading {
+        Reading::Refused(refusal.number())
+    }
 }
 
-// The sample of module (i, j), counted from 0 inside the border.
-fn sample_at(plane: &[u8], frame: Frame, family: Family, axes: Axes, i: usize, j: usize) -> Sample
-    requires { Readable plane.now frame family × SmallAxes axes × (i < family.edge) × (j < family.edge) }
-    ensures { result ≡ sample_of plane.now frame family axes (i * family.edge + j) }
+/// The level at the sample of module (i, j), counted from 0 inside the border, where that lies in the picture.
+fn sample_at(picture: &Picture, family: Family, axes: Axes, i: usize, j: usize) -> Option<u8>
+    requires edge { (0 < family.edge) × (family.edge ≤ 8) }
+    requires border { family.border ≤ 4 }
+    requires small { SmallAxes axes }
+    requires inside { (i < family.edge) × (j < family.edge) }
+    ensures { result ≡ sample_of picture.now.bytes.now picture.now.frame family axes (i * family.edge + j) }
 {
     let border = family.border as usize;
     let side = family.edge as usize + 2 * border;
-    let x = places::pixel(axes.x, side, border + i, border + j);
-    let y = places::pixel(axes.y, side, border + i, border + j);
-    if frame.width <= x {
-        return Sample::Outside;
+    let x = axes.x.pixel(side, border + i, border + j);
+    let y = axes.y.pixel(side, border + i, border + j);
+    if picture.frame.width <= x {
+        return None;
     }
-    if frame.height <= y {
-        return Sample::Outside;
+    if picture.frame.height <= y {
+        return None;
     }
-    Sample::Level(plane[refusals::place_of(frame, x, y)])
+    Some(picture.level(x, y))
 }
 
-// The levels of the samples, into `levels`; false where a sample lies outside the picture.
+/// The levels of the samples, in their order from the start of `levels` on. Refuses a sample outside the picture.
 pub fn sample_levels(
-    plane: &[u8],
-    frame: Frame,
+    picture: &Picture,
     family: Family,
     axes: Axes,
-    levels: &mut [u8],
-) -> bool
-    requires { Readable plane.now frame family × SmallAxes axes × (length levels.old ≡ 64) }
-    ensures { Sampled plane.now frame family axes result levels.new }
+    levels: &mut [u8; 64],
+) -> Result<(), Refusal>
+    requires edge { (0 < family.edge) × (family.edge ≤ 8) }
+    requires border { family.border ≤ 4 }
+    requires small { SmallAxes axes }
+    ensures sampled { Sampled picture.now.bytes.now picture.now.frame family axes (is_ok result) levels.new }
+    ensures refused { IfErr result (λ e. e ≡ Refusal.SampleOutside) }
 {
     let edge = family.edge as usize;
-    let mut k = 0;
-    let mut i = 0;
-    while i < edge {
-        let mut j = 0;
-        while j < edge {
-            let Sample::Level(level) = sample_at(plane, frame, family, axes, i, j) else {
-                return false;
+    for i in 0..edge {
+        for j in 0..edge {
+            let Some(level) = sample_at(picture, family, axes, i, j) else {
+                return Err(Refusal::SampleOutside);
             };
-            levels[k] = level;
-            k += 1;
-            j += 1;
+            levels[i * edge + j] = level;
         }
-        i += 1;
     }
-    true
+    Ok(())
 }
 
-// The tag that a word shows, with its corners.
-fn tag_of(bits: u64, family: Family, codes: &[u64], quad: Quad) -> Reading
-    requires { (0 < family.edge) × (family.edge ≤ 8) × (0 < family.hamming_distance) × (family.hamming_distance ≤ 64) }
-    ensures { paper_reading result ≡ tag_of family codes.now quad (accepted bits) }
+/// The code that a quad shows in a picture: the refusals in their order, then what the search finds. Band 10, three unsure modules allowed.
+fn read(picture: &Picture, table: &Table, quad: Quad) -> Result<Match, Refusal>
+    ensures { with_corners quad (paper_read result) ≡ reading picture.now.bytes.now picture.now.frame table.now.family table.now.codes.now quad }
 {
-    match search::best_tag(bits, family.hamming_distance, codes, family.edge) {
-        Found::Tag {
-            id,
-            turn,
-            differing,
-            compared: _,
-        } => Reading::Tag {
-            id,
-            turn,
-            differing,
-            corners: points::answer_corners(quad, turn),
-        },
-        Found::Unread { compared: _ } => Reading::Refused(13),
-        Found::BadTable => Reading::Refused(6),
+    let corners = Corners::new(quad)?;
+    if corners.is_outside(picture.frame.width, picture.frame.height) {
+        return Err(Refusal::CornerOutside);
     }
-}
-
-// The tag that the levels of the samples show: band 10, three unsure allowed.
-fn decode_levels(levels: &[u8], family: Family, codes: &[u64], quad: Quad) -> Reading
-    requires { (0 < length levels.now) × (length levels.now ≤ 64) × (0 < family.edge) × (family.edge ≤ 8) × (0 < family.hamming_distance) × (family.hamming_distance ≤ 64) }
-    ensures { paper_reading result ≡ tag_of family codes.now quad (code_of levels.now 10 3) }
-{
-    match levels::bit_code(levels, 10, 3) {
-        Bits::Word(bits) => tag_of(bits, family, codes, quad),
-        Bits::Refused(n) => Reading::Refused(n),
-    }
-}
-
-// A reading of one quad, on a plane and with a table that refusals 1 and 6 let through.
-pub fn try_decode_quad(
-    plane: &[u8],
-    frame: Frame,
-    family: Family,
-    codes: &[u64],
-    quad: Quad,
-) -> Reading
-    requires { (bad_frame (length plane.now) frame ≡ false) × (bad_table family codes.now ≡ false) }
-    ensures { paper_reading result ≡ reading plane.now frame family codes.now quad }
-{
-    let is_bad = places::bad_corners(quad);
-    if is_bad {
-        return Reading::Refused(8);
-    }
-    if places::corners_outside(quad, frame.width, frame.height) {
-        return Reading::Refused(9);
-    }
-    let axes = places::axes_of(quad);
+    let family = table.family;
     let mut levels = [0u8; 64];
-    if !sample_levels(plane, frame, family, axes, &mut levels) {
-        return Reading::Refused(10);
+    sample_levels(picture, family, corners.axes(), &mut levels)?;
+    let edge = family.edge as usize;
+    let bits = levels::bit_code(&levels[..edge * edge], 10, 3)?;
+    search::best_tag(bits, family.hamming_distance, table.codes, family.edge)
+        .found
+        .ok_or(Refusal::Unread)
+}
+
+/// A reading of one quad (`try_decode_quad` of the original).
+pub fn try_decode_quad(picture: &Picture, table: &Table, quad: Quad) -> Reading
+    ensures { paper_reading result ≡ reading picture.now.bytes.now picture.now.frame table.now.family table.now.codes.now quad }
+{
+    match read(picture, table, quad) {
+        Ok(found) => Reading::Tag {
+            id: found.id,
+            turn: found.turn,
+            differing: found.differing,
+            corners: points::answer_corners(quad, found.turn),
+        },
+        Err(refusal) => Reading::from(refusal),
     }
-    let n = (family.edge as usize) * (family.edge as usize);
-    decode_levels(&levels[..n], family, codes, quad)
 }

@@ -1,3 +1,4 @@
 pub mod Outcome
 pub mod Plane
 pub mod Pixels
+pub mod Numbers

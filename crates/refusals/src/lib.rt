@@ -1,13 +1,19 @@
-// What several public entries share: the outcome of a call (specs/Outcome.antt), the structs that describe a plane,
-// refusal 1, and where a pixel of an 8-bit plane stands.
+// What several public entries share: why a call is refused, the structs that describe a plane, and planes that refusal 1 lets
+// through.
 #![tactic(auto, using(std::proofs::lemmas::Bool::Decides::nat_tests), unfolding(crate::specs::Plane::bad_sides, crate::specs::Plane::bad_plane, crate::specs::Pixels::bad_pitch, crate::specs::Pixels::bad_frame))]
+
+mod picture;
+mod refusal;
 
 ghost use Rattle.std.specs.Prelude.{◌≡◌, ◌≤◌};
 ghost use Rattle.refusals.specs.Plane.{bad_sides, bad_plane};
 ghost use Rattle.refusals.specs.Pixels.{packed_frame, bad_pitch, bad_frame, place_of, SmallFrame};
 
+pub use picture::Picture;
+pub use refusal::Refusal;
+
 // The sides of a plane of floats.
-#[derive(Clone, Copy)]
+#[derive(Clone, Copy, Debug, PartialEq, Eq)]
 pub struct Shape {
     pub width: usize,
     pub height: usize,
@@ -15,7 +21,7 @@ pub struct Shape {
 
 // The sides of an 8-bit plane, and its pitch: the bytes from the start of a line to the start of the next. The pitch - width
 // bytes behind each line but the last are filler, which is never read and never written.
-#[derive(Clone, Copy)]
+#[derive(Clone, Copy, Debug, PartialEq, Eq)]
 pub struct Frame {
     pub width: usize,
     pub height: usize,

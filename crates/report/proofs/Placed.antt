@@ -36,45 +36,42 @@ Sound [] = 0 < 1
 Sound (c ∷ l) = (c.stands ≡ true → good_row c.row ≡ true) × Sound l
 
 -- no id of a list was met
-abbrev not_met : List ℕ → ℕ → Bool
-not_met met id = not (eqb (get_or met id 0) 1)
+abbrev not_met : List Bool → ℕ → Bool
+not_met met id = not (get_or met id false)
 
-abbrev none_met : List ℕ → List ℕ → Bool
+abbrev none_met : List Bool → List ℕ → Bool
 none_met met ids = all (not_met met) ids
 
 -- nothing was met at first
-none_at_first : (n : ℕ) (ids : List ℕ) → none_met (replicate n 0) ids ≡ true
+none_at_first : (n : ℕ) (ids : List ℕ) → none_met (replicate n false) ids ≡ true
 unfolding all
 none_at_first n [] = refl
-none_at_first n (id ∷ ids) = ap₂ (λ (a : Bool) (b : Bool). not a && b) (at_zero n id) (none_at_first n ids)
+none_at_first n (id ∷ ids) = ap₂ (λ (a : Bool) (b : Bool). not a && b) (falses n id) (none_at_first n ids)
   where
-    at_zero : (n id : ℕ) → eqb (get_or (replicate n 0) id 0) 1 ≡ false
-    at_zero n id = ap (λ (x : ℕ). eqb x 1) (zeros n id)
-      where
-        zeros : (n id : ℕ) → ◌≡◌ {A = ℕ} (get_or (replicate n 0) id 0) 0
-        zeros zero id = refl
-        zeros (suc n) zero = refl
-        zeros (suc n) (suc id) = zeros n id
+    falses : (n id : ℕ) → get_or (replicate n false) id false ≡ false
+    falses zero id = refl
+    falses (suc n) zero = refl
+    falses (suc n) (suc id) = falses n id
 
 regroup : (x n h : Bool) → not x && (n && not h) ≡ (not x && n) && not h
 regroup true n h = refl
 regroup false n h = refl
 
 -- with one id more
-met_more : (met ids : List ℕ) (id : ℕ) → id < length met → none_met (set met id 1) ids ≡ none_met met ids && not (holds id ids)
+met_more : (met : List Bool) (ids : List ℕ) (id : ℕ) → id < length met → none_met (set met id true) ids ≡ none_met met ids && not (holds id ids)
 unfolding all holds
 met_more met [] id h = refl
 met_more met (k ∷ ids) id h = go (met_more met ids id h) (same? k id)
   where
-    go : none_met (set met id 1) ids ≡ none_met met ids && not (holds id ids) → (k ≡ id) ⊎ (k ≡ id → ⊥)
-        → not_met (set met id 1) k && none_met (set met id 1) ids ≡ (not_met met k && none_met met ids) && not (eqb k id || holds id ids)
+    go : none_met (set met id true) ids ≡ none_met met ids && not (holds id ids) → (k ≡ id) ⊎ (k ≡ id → ⊥)
+        → not_met (set met id true) k && none_met (set met id true) ids ≡ (not_met met k && none_met met ids) && not (eqb k id || holds id ids)
     go ih (inl e) =
-        ap (λ (b : Bool). not b && none_met (set met id 1) ids) (eq-eqb (get_or (set met id 1) k 0) 1 (ap (λ (x : ℕ). get_or (set met id 1) x 0) e ∙ get_or-set_same met id 1 0 h))
+        ap (λ (b : Bool). not b && none_met (set met id true) ids) (ap (λ (x : ℕ). get_or (set met id true) x false) e ∙ get_or-set_same met id true false h)
         ∙ sym (and-false (not_met met k && none_met met ids))
         ∙ ap (λ (b : Bool). (not_met met k && none_met met ids) && not (b || holds id ids)) (sym (eq-eqb k id e))
     go ih (inr d) =
-        ap₂ (λ (x : ℕ) (n : Bool). not (eqb x 1) && n) (get_or-set_other met id k 1 0 d) ih
-        ∙ regroup (eqb (get_or met k 0) 1) (none_met met ids) (holds id ids)
+        ap₂ (λ (x : Bool) (n : Bool). not x && n) (get_or-set_other met id k true false d) ih
+        ∙ regroup (get_or met k false) (none_met met ids) (holds id ids)
         ∙ ap (λ (b : Bool). (not_met met k && none_met met ids) && not (b || holds id ids)) (sym (ne_eqb k id d))
 
 -- in another order
@@ -102,10 +99,10 @@ abbrev ids_of : List Candidate → List ℕ
 ids_of l = flat_map id_of (said l)
 
 -- the rest of the rows, from ids that were met and a place
-abbrev rest_placed : List ℕ → List Candidate → ℕ → Outcome ℕ
+abbrev rest_placed : List Bool → List Candidate → ℕ → Outcome ℕ
 rest_placed met l at = cond (all stands_of l && (distinct (ids_of l) && none_met met (ids_of l))) (accepted (at + size_of l)) (refused 20)
 
-placed_from : (met : List ℕ) (l : List Candidate) (at : ℕ) → length met ≡ 1024 → Sound l → placed met l at ≡ rest_placed met l at
+placed_from : (met : List Bool) (l : List Candidate) (at : ℕ) → length met ≡ 1024 → Sound l → placed met l at ≡ rest_placed met l at
 unfolding placed Sound all flat_map distinct
 placed_from met [] at h s = ap accepted (sym (add-zero at))
 placed_from met (c ∷ l) at h s = go (λ m k e. placed_from m l k e s.1) c.row c.stands s.0
@@ -113,27 +110,27 @@ placed_from met (c ∷ l) at h s = go (λ m k e. placed_from m l k e s.1) c.row 
     moved : (row : Outcome Tag) → at + length (row_bytes row) + size_of l ≡ at + length (row_bytes row ++ flat_map row_bytes (said l))
     moved row = add_assoc at (length (row_bytes row)) (size_of l) ∙ ap (λ (n : ℕ). at + n) (sym (length-append (row_bytes row) (flat_map row_bytes (said l))))
 
-    go : ((m : List ℕ) (k : ℕ) → length m ≡ 1024 → placed m l k ≡ rest_placed m l k) → (row : Outcome Tag) (stands : Bool) → (stands ≡ true → good_row row ≡ true)
+    go : ((m : List Bool) (k : ℕ) → length m ≡ 1024 → placed m l k ≡ rest_placed m l k) → (row : Outcome Tag) (stands : Bool) → (stands ≡ true → good_row row ≡ true)
         → cond (stands && not (is_met met row)) (placed (meet met row) l (at + length (row_bytes row))) (refused 20)
         ≡ cond ((stands && all stands_of l) && (distinct (id_of row ++ ids_of l) && none_met met (id_of row ++ ids_of l))) (accepted (at + length (row_bytes row ++ flat_map row_bytes (said l)))) (refused 20)
     go ih row false good = refl
     go ih (refused n) true good =
         ih met (at + 2) h
         ∙ ap (λ (k : ℕ). cond (all stands_of l && (distinct (ids_of l) && none_met met (ids_of l))) (accepted k) (refused 20)) (moved (refused n))
-    go ih (accepted tag) true good = by (eqb (get_or met tag.id 0) 1) refl
+    go ih (accepted tag) true good = by (get_or met tag.id false) refl
       where
         id_lt : tag.id < length met
         id_lt = omega (arith, (good_tag tag (good refl)).id_lt, h)
 
-        by : (m : Bool) → eqb (get_or met tag.id 0) 1 ≡ m
-            → cond (not m) (placed (set met tag.id 1) l (at + length (row_bytes (accepted tag)))) (refused 20)
+        by : (m : Bool) → get_or met tag.id false ≡ m
+            → cond (not m) (placed (set met tag.id true) l (at + length (row_bytes (accepted tag)))) (refused 20)
             ≡ cond (all stands_of l && ((not (holds tag.id (ids_of l)) && distinct (ids_of l)) && (not m && none_met met (ids_of l))))
             (accepted (at + length (row_bytes (accepted tag) ++ flat_map row_bytes (said l)))) (refused 20)
         by true e =
             ap (λ (b : Bool). cond b (accepted (at + length (row_bytes (accepted tag) ++ flat_map row_bytes (said l)))) (refused 20))
             (met_fails (all stands_of l) (not (holds tag.id (ids_of l)) && distinct (ids_of l)) (none_met met (ids_of l)))
         by false e =
-            ih (set met tag.id 1) (at + length (row_bytes (accepted tag))) (length-set met tag.id 1 ∙ h)
+            ih (set met tag.id true) (at + length (row_bytes (accepted tag))) (length-set met tag.id true ∙ h)
             ∙ ap₂ (λ (b : Bool) (k : ℕ). cond b (accepted k) (refused 20))
             (ap (λ (n : Bool). all stands_of l && (distinct (ids_of l) && n)) (met_more met (ids_of l) tag.id id_lt)
             ∙ order (all stands_of l) (distinct (ids_of l)) (none_met met (ids_of l)) (holds tag.id (ids_of l)))
@@ -141,14 +138,14 @@ placed_from met (c ∷ l) at h s = go (λ m k e. placed_from m l k e s.1) c.row 
 
 -- from the first row on
 pub placed_is : (l : List Candidate) (at : ℕ) → Sound l
-    → placed (replicate 1024 0) l at ≡ cond (all stands_of l && distinct (ids_of l)) (accepted (at + size_of l)) (refused 20)
+    → placed (replicate 1024 false) l at ≡ cond (all stands_of l && distinct (ids_of l)) (accepted (at + size_of l)) (refused 20)
 placed_is l at s =
-    placed_from (replicate 1024 0) l at (length-replicate {A = ℕ} 1024 0) s
+    placed_from (replicate 1024 false) l at (length-replicate {A = Bool} 1024 false) s
     ∙ ap (λ (n : Bool). cond (all stands_of l && n) (accepted (at + size_of l)) (refused 20)) (ap (λ (n : Bool). distinct (ids_of l) && n) (none_at_first 1024 (ids_of l)) ∙ and-true (distinct (ids_of l)))
 
 -- ---- one row more
 
-module _ (met : List ℕ) (c : Candidate) (l : List Candidate) (at : ℕ) where
+module _ (met : List Bool) (c : Candidate) (l : List Candidate) (at : ℕ) where
   abbrev placed_on : Outcome ℕ
   placed_on = placed (meet met c.row) l (at + length (row_bytes c.row))
 

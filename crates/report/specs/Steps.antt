@@ -1,5 +1,5 @@
 -- What only the loops of the report's writer and reader need: a row that is looked at, the ids met before it, and how far the rows have come. Assumes nothing.
-use Rattle.std.specs.Prelude.{ℕ, zero, suc, ◌+◌, Bool, false, not, ◌&&◌, cond, List, [], ◌∷◌, eqb, Float, length, get_or, take, drop, set}
+use Rattle.std.specs.Prelude.{ℕ, zero, suc, ◌+◌, Bool, true, false, not, ◌&&◌, cond, List, [], ◌∷◌, Float, length, get_or, take, drop, set}
 use Rattle.refusals.specs.Outcome.{Outcome, accepted, refused}
 use Rattle.points.specs.Numbers.{quad_size}
 use Rattle.reader.specs.Reading.{Tag}
@@ -42,17 +42,17 @@ byte_candidates zero bytes = []
 byte_candidates (suc n) bytes =
     record { row = row_in bytes; stands = bytes_stand bytes } ∷ byte_candidates n (drop (length (row_bytes (row_in bytes))) bytes)
 
--- whether the id of a row was met before, and the ids met with it: a number for each id, 1 where it was met
-abbrev pub is_met : List ℕ → Outcome Tag → Bool
-is_met met (accepted tag) = eqb (get_or met tag.id 0) 1
+-- whether the id of a row was met before, and the ids met with it: for each id whether it was met
+abbrev pub is_met : List Bool → Outcome Tag → Bool
+is_met met (accepted tag) = get_or met tag.id false
 is_met met (refused n) = false
 
-abbrev pub meet : List ℕ → Outcome Tag → List ℕ
-meet met (accepted tag) = set met tag.id 1
+abbrev pub meet : List Bool → Outcome Tag → List Bool
+meet met (accepted tag) = set met tag.id true
 meet met (refused n) = met
 
 -- the place behind the rows, where each of them stands and has an id that was not met before; 20 where not
-unfoldable pub placed : List ℕ → List Candidate → ℕ → Outcome ℕ
+unfoldable pub placed : List Bool → List Candidate → ℕ → Outcome ℕ
 unfolding low_first
 placed met [] at = accepted at
 placed met (c ∷ rest) at =

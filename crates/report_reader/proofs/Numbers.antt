@@ -1,6 +1,8 @@
 -- Numbers of two and four bytes, low byte first. Assumes nothing.
+use Rattle.std.proofs.Common.{w16, w32}
+use Rattle.std.specs.Int.{from_le_bytes}
 use mathlib.Core.Path.{◌≡◌, refl, sym, ap, ◌∙◌}
-use mathlib.Core.List.{List}
+use mathlib.Core.List.{List, [], ◌∷◌}
 use Prim.Native.Nat.{ℕ, suc, ◌+◌, ◌*◌, ◌≤◌, ◌<◌}
 use native.Mathlib.Nat.{add-zero}
 use native.Mathlib.Numerals.{add-one}
@@ -36,3 +38,10 @@ module _ (l : List ℕ) where
       ∙ ap (λ (n : ℕ). get_or l at 0 + 256 * n)
       (number_cons 2 (at + 1) (omega arith)
       ∙ ap (λ (n : ℕ). get_or l (at + 1) 0 + 256 * n) (ap (λ (k : ℕ). number_at 2 k l) second ∙ two (at + 2) (omega arith) ∙ ap (λ (k : ℕ). get_or l (at + 2) 0 + 256 * get_or l k 0) third))
+
+-- std's number of two and of four bytes
+pub le_two : (a b : ℕ) → from_le_bytes w16 (a ∷ b ∷ []) ≡ a + 256 * b
+le_two a b = omega arith
+
+pub le_four : (a b c d : ℕ) → from_le_bytes w32 (a ∷ b ∷ c ∷ d ∷ []) ≡ a + 256 * (b + 256 * (c + 256 * d))
+le_four a b c d = omega arith

@@ -114,7 +114,7 @@ module _ (report : List ℕ) (some : 2 ≤ length report) where
       ap (λ (k : ℕ). begins_with (low_first 2 k) report) (length-rows_in n bytes)
       ∙ ap (same (low_first 2 n)) (Stood-number report byte 2 0 some) ∙ same_refl (low_first 2 n)
 
-  pub report_placed : ((k : ℕ) → get_or report k 0 < 256) → is_report report ≡ ends_at (length report) (placed (replicate 1024 0) rows 2)
+  pub report_placed : ((k : ℕ) → get_or report k 0 < 256) → is_report report ≡ ends_at (length report) (placed (replicate 1024 false) rows 2)
   unfolding is_report is_reading report_says report_of low_first
   report_placed byte =
       let F = bytes_of n bytes in
@@ -176,7 +176,7 @@ module _ (report : List ℕ) (n : ℕ) where
     unfolding all
     stands_next e = and_parts (bytes_stand (from at)) (all stands_of (left (q + 1) (after at))) (ap (all stands_of) (sym left_next) ∙ e)
 
-    module _ (met : List ℕ) where
+    module _ (met : List Bool) where
       abbrev candidate : Candidate
       candidate = record { row = row_in (from at); stands = bytes_stand (from at) }
 
@@ -192,6 +192,6 @@ module _ (report : List ℕ) (n : ℕ) where
       pub goes_on : bytes_stand (from at) ≡ true → is_met met (row_in (from at)) ≡ false → placed met (left q at) at ≡ placed (meet met (row_in (from at))) (left (q + 1) (after at)) (after at)
       goes_on e f = next ∙ placed_more met candidate (left (q + 1) (after at)) at e f
 
-  pub none_left_over : (q at : ℕ) (met : List ℕ) → n ≤ q → placed met (left q at) at ≡ accepted at
+  pub none_left_over : (q at : ℕ) (met : List Bool) → n ≤ q → placed met (left q at) at ≡ accepted at
   unfolding placed byte_candidates
   none_left_over q at met h = let z : n - q ≡ 0 = omega arith in ap (λ (k : ℕ). placed met (byte_candidates k (from at)) at) z

@@ -17,14 +17,14 @@ ghost use Rattle.report_reader.specs.Steps.{head_of, tag_stands, PutRows};
 use listing::MOST_IDS;
 use points::{Point, Quad};
 use reader::Reading;
-use report::REFUSED_MAP;
+use report::{Met, REFUSED_MAP};
 
-// The number of the two bytes at a place, low byte first.
+/// The number of the two bytes at a place, low byte first.
 pub fn two_bytes(bytes: &[u8], at: usize) -> usize
     requires { at + 2 ≤ length bytes.now }
     ensures { result ≡ number_at 2 at bytes.now }
 {
-    bytes[at] as usize + 256 * (bytes[at + 1] as usize)
+    u16::from_le_bytes([bytes[at], bytes[at + 1]]) as usize
 }
 
 // The bit pattern of the four bytes at a place, low byte first.
@@ -32,11 +32,7 @@ fn pattern_at(bytes: &[u8], at: usize) -> u32
     requires { at + 4 ≤ length bytes.now }
     ensures { result ≡ number_at 4 at bytes.now }
 {
-    let b0 = bytes[at] as u32;
-    let b1 = bytes[at + 1] as u32;
-    let b2 = bytes[at + 2] as u32;
-    let b3 = bytes[at + 3] as u32;
-    b0 + 256 * (b1 + 256 * (b2 + 256 * b3))
+    u32::from_le_bytes([bytes[at], bytes[at + 1], bytes[at + 2], bytes[at + 3]])
 }
 
 // Refusal 8 for a coordinate's bit pattern: an exponent of 14 or more.
@@ -136,7 +132,7 @@ fn head_of(bytes: &[u8]) -> Head
 fn good_numbers(id: usize, turn: u8, differing: u8) -> bool
     ensures { result ≡ ltb id 1024 && (leb turn 3 && leb differing 63) }
 {
-    (id < MOST_IDS) & ((turn <= 3) & (differing <= 63))
+    id < MOST_IDS && (turn <= 3 && differing <= 63)
 }
 
 // Whether the bytes begin with the row of a tag. Its map is the one that is written for its turn and differing modules, so no field
@@ -190,43 +186,39 @@ fn read_row(bytes: &[u8]) -> Reading
     }
 }
 
-// The first pass, over the rows that the first two bytes tell, at most 1,024: tests every row once, meets its id, and finds its end, which
-// for the last row is the end of the bytes.
+/// The first pass, over the rows that the first two bytes tell, at most 1,024: tests every row once, meets its id, and finds its end, which
+/// for the last row is the end of the bytes.
 pub fn is_report(report: &[u8], count: usize) -> bool
     requires { (2 ≤ length report.now) × (count ≡ count_in report.now) × (count ≤ most_quads) }
     ensures { result ≡ is_report report.now }
 {
-    let mut met = [0u8; MOST_IDS];
+    let mut met = Met::none();
     let mut at = 2;
-    let mut q = 0;
-    while q < count {
+    for q in 0..count {
         let bytes = &report[at..];
         if !row_stands(bytes) {
             return false;
         }
         let row = read_row(bytes);
-        if report::is_met(&met, row) {
+        if met.has(row) {
             return false;
         }
-        report::meet_id(&mut met, row);
+        met.add(row);
         at += report::row_size(row);
-        q += 1;
     }
     at == report.len()
 }
 
-// The second pass, over a report: puts its rows and their corner numbers at the front of the outputs.
+/// The second pass, over a report: puts its rows and their corner numbers at the front of the outputs.
 pub fn put_rows(report: &[u8], count: usize, rows: &mut [u64], corners: &mut [f32])
     requires { (2 ≤ length report.now) × (count ≡ count_in report.now) × (is_report report.now ≡ true) × (row_size * count ≤ length rows.old) × (quad_size * count ≤ length corners.old) }
     ensures { PutRows report.now rows.old corners.old rows.new corners.new }
 {
     let mut at = 2;
-    let mut q = 0;
-    while q < count {
+    for q in 0..count {
         let row = read_row(&report[at..]);
         listing::put_row(rows, q, row);
         listing::put_corners(corners, q, row);
         at += report::row_size(row);
-        q += 1;
     }
 }

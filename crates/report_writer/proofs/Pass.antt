@@ -3,12 +3,10 @@ use mathlib.Core.Path.{◌≡◌, refl, sym, ap, ap₂, ◌∙◌}
 use mathlib.Core.Bool.{Bool, true, false, ◌&&◌, cond}
 use mathlib.Core.List.{List, [], ◌∷◌, ◌++◌, flat_map, append-nil, append_assoc}
 use Prim.Native.Nat.{ℕ, suc, ◌+◌, ◌-◌, ◌*◌, ◌≤◌, ◌<◌}
-use native.Mathlib.Nat.{zero-add}
 use native.Mathlib.Omega.{arith}
 use lib.Ieee.{Float}
-use lib.ListN.{length, take, drop, replicate, length-append, length-drop}
+use lib.ListN.{length, take, replicate, length-append, length-drop}
 use Rattle.lists.specs.Tab.{all}
-use Rattle.lists.specs.Front.{in_front}
 use Rattle.refusals.specs.Outcome.{Outcome, accepted, refused}
 use Rattle.points.specs.Numbers.{quad_size}
 use Rattle.reader.specs.Reading.{Tag}
@@ -20,7 +18,6 @@ use Rattle.report.specs.Steps.{Candidate, row_stands, row_candidates, is_met, me
 use Rattle.report.proofs.Same.{part_from}
 use Rattle.report.proofs.Rows.{length-front_rows}
 use Rattle.report.proofs.Placed.{stands_of, placed_is, placed_more, placed-not, placed_met}
-use Rattle.text.specs.Put.{Put}
 use Rattle.report_writer.proofs.Rows.{rows_from, corners_from, behind, front_rows-add, said_is, sound, reading_is}
 
 -- row q has its numbers there
@@ -59,7 +56,7 @@ module _ (rows : List ℕ) (corners : List Float) where
       ap (λ (k : ℕ). row_candidates k (rows_from rows q) (corners_from corners q)) one
       ∙ ap₂ (λ (r : List ℕ) (c : List Float). record { row = row_at q; stands = stands_at q } ∷ row_candidates (n - (q + 1)) r c) (behind row_size q rows) (behind quad_size q corners)
 
-  module _ (n q : ℕ) (h : q < n) (met : List ℕ) (at : ℕ) where
+  module _ (n q : ℕ) (h : q < n) (met : List Bool) (at : ℕ) where
     abbrev candidate : Candidate
     candidate = record { row = row_at q; stands = stands_at q }
 
@@ -75,17 +72,17 @@ module _ (rows : List ℕ) (corners : List Float) where
     pub goes_on : stands_at q ≡ true → is_met met (row_at q) ≡ false → placed met (rest n q) at ≡ placed (meet met (row_at q)) (rest n (q + 1)) (at + length (row_bytes (row_at q)))
     goes_on e f = next ∙ placed_more met candidate (rest n (q + 1)) at e f
 
-  pub none_left : (n q : ℕ) (met : List ℕ) (at : ℕ) → n ≤ q → placed met (rest n q) at ≡ accepted at
+  pub none_left : (n q : ℕ) (met : List Bool) (at : ℕ) → n ≤ q → placed met (rest n q) at ≡ accepted at
   unfolding placed row_candidates
   none_left n q met at h = let z : n - q ≡ 0 = omega arith in ap (λ (k : ℕ). placed met (row_candidates k (rows_from rows q) (corners_from corners q)) at) z
 
   -- what is found: the length of the report, or that there is none
   pub found : let n = row_count (length rows) in length rows ≡ row_size * n → length corners ≡ quad_size * n
-      → placed (replicate 1024 0) (rest n 0) 2 ≡ cond (is_rows rows corners) (accepted (length (report_of (rows_say rows corners)))) (refused 20)
+      → placed (replicate 1024 false) (rest n 0) 2 ≡ cond (is_rows rows corners) (accepted (length (report_of (rows_say rows corners)))) (refused 20)
   found r c =
       let n : ℕ = row_count (length rows) in
       let first : n - 0 ≡ n = omega arith in
-      ap (λ (k : ℕ). placed (replicate 1024 0) (row_candidates k rows corners) 2) first
+      ap (λ (k : ℕ). placed (replicate 1024 false) (row_candidates k rows corners) 2) first
       ∙ placed_is (row_candidates n rows corners) 2 (sound n rows corners)
       ∙ ap (λ (l : List (Outcome Tag)). cond (all stands_of (row_candidates n rows corners) && distinct (flat_map id_of l)) (accepted (2 + length (flat_map row_bytes l))) (refused 20)) (said_is n rows corners)
       ∙ ap₂ (λ (b : Bool) (k : ℕ). cond b (accepted k) (refused 20)) (sym (reading_is rows corners r c)) (sym (report_long (rows_say rows corners)))
@@ -114,7 +111,3 @@ module _ (rows : List ℕ) (corners : List Float) where
   report_is =
       let n : ℕ = row_count (length rows) in
       ap (λ (k : ℕ). low_first 2 k ++ bytes_to n) (sym (length-front_rows n rows corners))
-
--- what is put at the front
-pub Put-front : {text buffer left : List ℕ} {next : ℕ} → Put text buffer 0 left next → (next ≡ length text) × (left ≡ in_front text buffer)
-Put-front {text} {buffer} p = (p.place ∙ zero-add (length text), p.bytes ∙ ap (λ (k : ℕ). text ++ drop k buffer) (zero-add (length text)))

@@ -5,31 +5,25 @@ ghost use Rattle.std.specs.Prelude.{◌≡◌, true, false, cond, ◌+◌, ◌*�
 ghost use mathlib.Core.List.{◌++◌, flat_map};
 ghost use Rattle.lists.specs.Front.{in_front};
 ghost use Rattle.refusals.specs.Outcome.{accepted, refused};
+ghost use Rattle.refusals.specs.Numbers.{outcome};
 ghost use Rattle.points.specs.Numbers.{quad_size, numbers_of};
 ghost use Rattle.places.specs.Rounding.{bad_coordinate};
 ghost use Rattle.places.specs.Corners.{bad_corner, bad_corners};
 ghost use Rattle.reader.specs.Answer.{paper_reading};
 ghost use Rattle.listing.specs.Listing.{row_size, most_quads};
-ghost use Rattle.text.specs.Put.{Put};
+ghost use Rattle.text.specs.Put.{Put, HasRoom};
 ghost use Rattle.report.specs.Reading.{good_row};
 ghost use Rattle.report.specs.Bytes.{low_first, unless_zero, float_bytes, row_bytes, report_of};
 ghost use Rattle.report.specs.Rows.{front_row, row_count, rows_say, is_rows};
 ghost use Rattle.report.specs.Steps.{row_stands};
-ghost use Rattle.report_writer.specs.Size.{paper_size};
 ghost use Rattle.report_writer.specs.Steps.{tag_row, no_bits, no_corner, no_corners};
 
 use listing::{MOST_IDS, ROW_SIZE};
 use points::{Point, QUAD_SIZE, Quad};
 use reader::Reading;
-use report::REFUSED_MAP;
-use text::put_byte;
-
-// How long the report of some rows and corner numbers is, or that they are no reading.
-#[derive(Clone, Copy)]
-pub enum Size {
-    Bytes(usize),
-    NoReading,
-}
+use refusals::Refusal;
+use report::{Met, REFUSED_MAP};
+use text::Output;
 
 // Whether a tag may stand in a reading: "id below 1,024 .., turn at most 3, differing modules at most 63, corners that 8 lets through".
 fn tag_stands(id: u64, turn: u64, differing: u64, quad: Quad) -> bool
@@ -89,73 +83,69 @@ fn reading_of(rows: &[u64], corners: &[f32]) -> Reading
     }
 }
 
-// Puts a number in two bytes, the low one first; what is above them is left out.
-fn put_two(n: u32, report: &mut [u8], at: usize) -> usize
-    requires { at + 2 ≤ length report.old }
-    ensures { Put (low_first 2 n) report.old at report.new result }
+// Puts a number in two bytes, the low one first.
+fn put_two(n: u16, output: &mut Output)
+    requires { HasRoom output.old 2 }
+    ensures { Put (low_first 2 n) output.old output.new }
 {
-    let low_end = put_byte((n % 256) as u8, report, at);
-    put_byte((n / 256 % 256) as u8, report, low_end)
+    output.put(&n.to_le_bytes());
 }
 
 // Puts a field that is left out when 0.
-fn put_unless_zero(n: u8, report: &mut [u8], at: usize) -> usize
-    requires { at + length (unless_zero n) ≤ length report.old }
-    ensures { Put (unless_zero n) report.old at report.new result }
+fn put_unless_zero(n: u8, output: &mut Output)
+    requires { HasRoom output.old (length (unless_zero n)) }
+    ensures { Put (unless_zero n) output.old output.new }
 {
     let is_zero = n == 0;
-    if is_zero {
-        return at;
+    if !is_zero {
+        output.put_byte(n);
     }
-    put_byte(n, report, at)
 }
 
-// Puts the bits of a coordinate that refusal 8 lets through.
-fn put_float(x: f32, report: &mut [u8], at: usize) -> usize
-    requires { (bad_coordinate x ≡ false) × (at + 4 ≤ length report.old) }
-    ensures { Put (float_bytes x) report.old at report.new result }
+// Puts the bits of a coordinate that refusal 8 lets through, the low byte first.
+fn put_float(x: f32, output: &mut Output)
+    requires { (bad_coordinate x ≡ false) × HasRoom output.old 4 }
+    ensures { Put (float_bytes x) output.old output.new }
 {
-    let bits = f32::to_bits(x);
-    let low_end = put_two(bits, report, at);
-    put_two(bits / 256 / 256, report, low_end)
+    output.put(&f32::to_bits(x).to_le_bytes());
 }
 
 // Puts a corner's two numbers.
-fn put_point(p: Point, report: &mut [u8], at: usize) -> usize
-    requires { (bad_corner p ≡ false) × (at + 8 ≤ length report.old) }
-    ensures { Put (float_bytes p.x ++ float_bytes p.y) report.old at report.new result }
+fn put_point(p: Point, output: &mut Output)
+    requires { (bad_corner p ≡ false) × HasRoom output.old 8 }
+    ensures { Put (float_bytes p.x ++ float_bytes p.y) output.old output.new }
 {
-    let x_end = put_float(p.x, report, at);
-    put_float(p.y, report, x_end)
+    put_float(p.x, output);
+    put_float(p.y, output);
 }
 
 // Puts a quad's eight numbers.
-fn put_corners(quad: Quad, report: &mut [u8], at: usize) -> usize
-    requires { (bad_corners quad ≡ false) × (at + 32 ≤ length report.old) }
-    ensures { Put (flat_map float_bytes (numbers_of quad)) report.old at report.new result }
+fn put_corners(quad: Quad, output: &mut Output)
+    requires { (bad_corners quad ≡ false) × HasRoom output.old 32 }
+    ensures { Put (flat_map float_bytes (numbers_of quad)) output.old output.new }
 {
-    let end0 = put_point(quad.q0, report, at);
-    let end1 = put_point(quad.q1, report, end0);
-    let end2 = put_point(quad.q2, report, end1);
-    put_point(quad.q3, report, end2)
+    put_point(quad.q0, output);
+    put_point(quad.q1, output);
+    put_point(quad.q2, output);
+    put_point(quad.q3, output);
 }
 
 // Puts the row of a tag.
-fn put_tag(id: usize, turn: u8, differing: u8, quad: Quad, report: &mut [u8], at: usize) -> usize
-    requires { (good_row (tag_row id turn differing quad) ≡ true) × (at + length (row_bytes (tag_row id turn differing quad)) ≤ length report.old) }
-    ensures { Put (row_bytes (tag_row id turn differing quad)) report.old at report.new result }
+fn put_tag(id: usize, turn: u8, differing: u8, quad: Quad, output: &mut Output)
+    requires { (good_row (tag_row id turn differing quad) ≡ true) × HasRoom output.old (length (row_bytes (tag_row id turn differing quad))) }
+    ensures { Put (row_bytes (tag_row id turn differing quad)) output.old output.new }
 {
-    let map_end = put_byte(report::tag_map(turn, differing), report, at);
-    let id_end = put_two(id as u32, report, map_end);
-    let turn_end = put_unless_zero(turn, report, id_end);
-    let differing_end = put_unless_zero(differing, report, turn_end);
-    put_corners(quad, report, differing_end)
+    output.put_byte(report::tag_map(turn, differing));
+    put_two(id as u16, output);
+    put_unless_zero(turn, output);
+    put_unless_zero(differing, output);
+    put_corners(quad, output);
 }
 
 // Puts a row: a map, and the fields whose bit it has.
-fn put_row(row: Reading, report: &mut [u8], at: usize) -> usize
-    requires { (good_row (paper_reading row) ≡ true) × (at + length (row_bytes (paper_reading row)) ≤ length report.old) }
-    ensures { Put (row_bytes (paper_reading row)) report.old at report.new result }
+fn put_row(row: Reading, output: &mut Output)
+    requires { (good_row (paper_reading row) ≡ true) × HasRoom output.old (length (row_bytes (paper_reading row))) }
+    ensures { Put (row_bytes (paper_reading row)) output.old output.new }
 {
     match row {
         Reading::Tag {
@@ -163,60 +153,58 @@ fn put_row(row: Reading, report: &mut [u8], at: usize) -> usize
             turn,
             differing,
             corners,
-        } => put_tag(id, turn, differing, corners, report, at),
-        Reading::Refused(n) => {
-            let map_end = put_byte(REFUSED_MAP, report, at);
-            put_byte(n, report, map_end)
-        }
+        } => put_tag(id, turn, differing, corners, output),
+        Reading::Refused(n) => output.put(&[REFUSED_MAP, n]),
     }
 }
 
-// The first pass, over at most 1,024 rows: tests every row once, meets its id, and adds up the bytes.
-pub fn report_size(rows: &[u64], corners: &[f32]) -> Size
+/// The first pass, over at most 1,024 rows: tests every row once, meets its id, and adds up the bytes of the report. Refusal 20 where the rows
+/// and corner numbers are no reading.
+pub fn report_size(rows: &[u64], corners: &[f32]) -> Result<usize, Refusal>
     requires { row_count (length rows.now) ≤ most_quads }
-    ensures { paper_size result ≡ cond (is_rows rows.now corners.now)
+    ensures { outcome result ≡ cond (is_rows rows.now corners.now)
         (accepted (length (report_of (rows_say rows.now corners.now)))) (refused 20) }
 {
     let count = rows.len() / ROW_SIZE;
     if rows.len() % ROW_SIZE != 0 {
-        return Size::NoReading;
+        return Err(Refusal::NoReading);
     }
     if corners.len() != QUAD_SIZE * count {
-        return Size::NoReading;
+        return Err(Refusal::NoReading);
     }
-    let mut met = [0u8; MOST_IDS];
+    let mut met = Met::none();
     let mut size = 2;
-    let mut q = 0;
-    while q < count {
+    for q in 0..count {
         let numbers = &rows[ROW_SIZE * q..];
         let quad = &corners[QUAD_SIZE * q..];
         if !row_stands(numbers, quad) {
-            return Size::NoReading;
+            return Err(Refusal::NoReading);
         }
         let row = reading_of(numbers, quad);
-        if report::is_met(&met, row) {
-            return Size::NoReading;
+        if met.has(row) {
+            return Err(Refusal::NoReading);
         }
-        report::meet_id(&mut met, row);
+        met.add(row);
         size += report::row_size(row);
-        q += 1;
     }
-    Size::Bytes(size)
+    Ok(size)
 }
 
-// The second pass, over a reading: writes its report at the front of the output and says how long it is.
+/// The second pass, over a reading: writes its report at the front of the output and says how long it is.
 pub fn put_report(rows: &[u64], corners: &[f32], report: &mut [u8]) -> usize
     requires { (is_rows rows.now corners.now ≡ true) × (row_count (length rows.now) ≤ most_quads) × (length (report_of (rows_say rows.now corners.now)) ≤ length report.old) }
     ensures { (result ≡ length (report_of (rows_say rows.now corners.now)))
         × (report.new ≡ in_front (report_of (rows_say rows.now corners.now)) report.old) }
 {
     let count = rows.len() / ROW_SIZE;
-    let mut at = put_two(count as u32, report, 0);
-    let mut q = 0;
-    while q < count {
+    let mut output = Output {
+        bytes: report,
+        at: 0,
+    };
+    put_two(count as u16, &mut output);
+    for q in 0..count {
         let row = reading_of(&rows[ROW_SIZE * q..], &corners[QUAD_SIZE * q..]);
-        at = put_row(row, report, at);
-        q += 1;
+        put_row(row, &mut output);
     }
-    at
+    output.at
 }

@@ -6,13 +6,13 @@ use Prim.Native.Nat.{ℕ, ◌+◌, ◌-◌, ◌*◌, ◌<◌}
 use native.Mathlib.Omega.{arith}
 use borrow.Author.Tests.{eq-eqb, ne_eqb, eqb-false}
 use lib.Dec.{eqb}
-use lib.ListN.{get_or, take, drop}
+use lib.ListN.{length, get_or, take, drop}
 use lib.Ieee.{Float, nan}
 use Rattle.lists.specs.Tab.{tabulate}
 use Rattle.lists.proofs.Bools.{or_left, or_right}
 use Rattle.lists.proofs.Grid.{row_of, column_of_lem}
 use Rattle.samples.specs.Samples.{zero_f}
-use Rattle.lists.proofs.Rows.{tabulate_ext, row_read}
+use Rattle.lists.proofs.Rows.{tabulate_ext, row_fits, row_length, row_read}
 use Rattle.response.specs.Response.{at_end, determinant_at, response_at}
 use Rattle.response.specs.Steps.{row_response}
 
@@ -45,6 +45,10 @@ between n p h e =
 pick : (b : Bool) {v w : Float} → (b ≡ false → v ≡ w) → cond b zero_f v ≡ cond b zero_f w
 pick true e = refl
 pick false e = e refl
+
+-- a row of a plane is as long as the plane is wide
+pub row_wide : (img : List Float) (w h y : ℕ) (row : List Float) → length img ≡ w * h → y < h → row ≡ take w (drop (y * w) img) → length row ≡ w
+row_wide img w h y row whole b e = ap length e ∙ row_length img w y w refl (rw whole (row_fits w h y b))
 
 -- the response in row y and column x
 module _ (img : List Float) (w h y : ℕ) where

@@ -1,6 +1,6 @@
 -- Two rows that are written side by side, and what they make of a plane. A loop that writes place x of both keeps `Pair`:
 -- `Pair-none`, `Pair-more`, `Pair-all`. Assumes nothing.
-use mathlib.Core.Path.{◌≡◌, sym, ap, ap₂, ◌∙◌}
+use mathlib.Core.Path.{◌≡◌, refl, sym, ap, ap₂, ◌∙◌}
 use mathlib.Core.List.{List, ◌++◌}
 use Prim.Native.Nat.{ℕ, ◌+◌, ◌-◌, ◌*◌, ◌≤◌, ◌<◌}
 use native.Mathlib.Nat.{mul_comm, mul-le-mul_right}
@@ -11,7 +11,8 @@ use lib.Ieee.{Float}
 use Rattle.lists.specs.Tab.{tabulate}
 use Rattle.lists.proofs.Grid.{next_row}
 use Rattle.lists.proofs.Tab.{written_none, written_more, written_all}
-use Rattle.lists.proofs.Rows.{tabulate_ext, tabulate-add}
+use Rattle.lists.proofs.Part.{part_length, back}
+use Rattle.lists.proofs.Rows.{Filled, rows_up_to, tabulate_ext, tabulate-add}
 use Rattle.response.proofs.Border.{off_end, inner_row}
 use Rattle.response.specs.Response.{response_at}
 use Rattle.response.specs.Steps.{row_response}
@@ -47,12 +48,14 @@ module _ {ℓ} {A : Type ℓ} where
         let m : length (drop n pair) ≡ n = omega (arith, length-drop n pair, r.whole) in
         sym (take-append-drop n pair) ∙ ap₂ ◌++◌ (rw e at r.upper) (written_all g x n (drop n pair) m e r.lower)
 
--- the rows y and y + 1: they end where row y + 2 starts, and lie in the plane
-pub two_rows : (w y : ℕ) → y * w + w + w ≡ (y + 2) * w
-two_rows w y = omega (arith, next_row w y, next_row w (y + 1), (let e : y + 1 + 1 ≡ y + 2 = omega arith in ap (λ (k : ℕ). k * w) e))
-
-pub pair_fits : (w h y : ℕ) → y + 2 ≤ h → y * w + w + w ≤ w * h
-pair_fits w h y b = omega (arith, two_rows w y, mul-le-mul_right w b, mul_comm w h)
+-- the rows from y on and before z are written
+pub rows_between : (f : ℕ → Float) (w h y z : ℕ) (out rows : List Float) → y ≤ z → z ≤ h → rows ≡ tabulate (length (take (z * w - y * w) (drop (y * w) out))) (λ p. f (y * w + p))
+    → Filled f (w * h) (y * w) out → Filled f (w * h) (z * w) (back out (y * w) (z * w - y * w) rows)
+rows_between f w h y z out rows up b is r =
+    let onward = mul-le-mul_right w up in
+    let fits : z * w ≤ length out = omega (arith, r.whole, mul-le-mul_right w b, mul_comm w h) in
+    let long = part_length out (y * w) (z * w) (z * w - y * w) fits (omega (arith, onward)) in
+    rows_up_to f w h y z _ (z * w) out rows b (omega (arith, long, onward)) refl is r
 
 -- the response in the rows y and y + 1, by the samples of those rows and of the ones above and below them
 module _ (img : List Float) (w h y : ℕ) (l : 0 < y) (b : y + 2 < h) where

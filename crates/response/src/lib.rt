@@ -1,13 +1,13 @@
-// The response, two rows at a time.
+//! The response, two rows at a time.
 #![tactic(auto)]
 
-ghost use Rattle.std.specs.Prelude.{◌≡◌, ◌+◌, ◌*◌, ◌<◌, ◌≤◌, length, get_or, take, drop};
+ghost use Rattle.std.specs.Prelude.{◌≡◌, ◌+◌, ◌*◌, ◌<◌, ◌≤◌, length, get_or};
 ghost use Rattle.std.specs.Float.{nan};
 ghost use Rattle.lists.specs.Tab.{tabulate};
 ghost use Rattle.response.specs.Response.{determinant_at, response_at, response};
 ghost use Rattle.response.specs.Steps.{row_response, FourRows, pair_response};
 
-use samples::clear;
+use samples::Plane;
 
 // The response at place `x` of a row, from its nine samples in the fixed order of operations.
 fn determinant_at(above: &[f32], here: &[f32], below: &[f32], x: usize) -> f32
@@ -36,13 +36,11 @@ fn respond_row(row: &mut [f32], above: &[f32], here: &[f32], below: &[f32])
 {
     let last = row.len() - 1;
     row[0] = 0.0;
-    let mut x = 1;
-    while x < last {
+    for x in 1..last {
         row[x] = determinant_at(above, here, below, x);
-        x += 1;
     }
-    if x < row.len() {
-        row[x] = 0.0;
+    if 0 < last {
+        row[last] = 0.0;
     }
 }
 
@@ -56,79 +54,68 @@ fn respond_pair(pair: &mut [f32], above: &[f32], upper: &[f32], lower: &[f32], b
     let last = width - 1;
     pair[0] = 0.0;
     pair[width] = 0.0;
-    let mut x = 1;
-    while x < last {
+    for x in 1..last {
         let first = determinant_at(above, upper, lower, x);
         let second = determinant_at(upper, lower, below, x);
         pair[x] = first;
         pair[width + x] = second;
-        x += 1;
     }
-    if x < width {
-        pair[x] = 0.0;
-        pair[width + x] = 0.0;
+    if 0 < last {
+        pair[last] = 0.0;
+        pair[width + last] = 0.0;
     }
-}
-
-// Row `y` of a plane.
-fn row_of(img: &[f32], width: usize, y: usize) -> &[f32]
-    requires { y * width + width ≤ length img.now }
-    ensures { result.now ≡ take width (drop (y * width) img.now) }
-{
-    let start = y * width;
-    let end = start + width;
-    &img[start..end]
 }
 
 // Row `y` of the response, which is not the first or the last.
-fn inner_row(row: &mut [f32], img: &[f32], height: usize, y: usize)
-    requires { (0 < length row.old) × (0 < y) × (y + 1 < height) × (length img.now ≡ length row.old * height) }
-    ensures { row.new ≡ tabulate (length row.old) (λ x. response_at img.now (length row.old) height (y * length row.old + x)) }
+fn inner_row(row: &mut [f32], img: &Plane, y: usize)
+    requires { (length row.old ≡ img.now.shape.width) × (0 < y) × (y + 1 < img.now.shape.height) }
+    ensures { row.new ≡ tabulate img.now.shape.width (λ x. response_at img.now.samples.now img.now.shape.width img.now.shape.height (y * img.now.shape.width + x)) }
 {
-    let width = row.len();
-    let above = row_of(img, width, y - 1);
-    let here = row_of(img, width, y);
-    let below = row_of(img, width, y + 1);
-    respond_row(row, above, here, below);
+    respond_row(row, img.row(y - 1), img.row(y), img.row(y + 1));
 }
 
 // Rows `y` and `y + 1` of the response, neither of which is the first or the last.
-fn inner_pair(pair: &mut [f32], img: &[f32], width: usize, height: usize, y: usize)
-    requires { (0 < width) × (length pair.old ≡ width + width) × (0 < y) × (y + 2 < height) × (length img.now ≡ width * height) }
-    ensures { pair.new ≡ tabulate (width + width) (λ p. response_at img.now width height (y * width + p)) }
+fn inner_pair(pair: &mut [f32], img: &Plane, y: usize)
+    requires { (length pair.old ≡ img.now.shape.width + img.now.shape.width) × (0 < y) × (y + 2 < img.now.shape.height) }
+    ensures { pair.new ≡ tabulate (img.now.shape.width + img.now.shape.width) (λ p. response_at img.now.samples.now img.now.shape.width img.now.shape.height (y * img.now.shape.width + p)) }
 {
-    let above = row_of(img, width, y - 1);
-    let upper = row_of(img, width, y);
-    let lower = row_of(img, width, y + 1);
-    let below = row_of(img, width, y + 2);
-    respond_pair(pair, above, upper, lower, below);
+    respond_pair(
+        pair,
+        img.row(y - 1),
+        img.row(y),
+        img.row(y + 1),
+        img.row(y + 2),
+    );
 }
 
-// The rows off the border are written two at a time, and one that is left over by itself. The first and the last row are
-// written outside of the loops. So every row that a loop could read lies in the plane, and the compiler's test for overlap,
-// which goes by those rows, does not keep the vector instructions from planes that stand side by side in memory.
-pub fn hessian_response(img: &[f32], width: usize, height: usize, out: &mut [f32])
-    requires { (0 < width) × (0 < height) × (length img.now ≡ width * height) × (length out.old ≡ width * height) }
-    ensures { out.new ≡ response img.now width height }
+// The rows from `y` on and before `next`, of which there are one or two, and none is the first or the last of the response.
+fn inner_rows(rows: &mut [f32], img: &Plane, y: usize, next: usize)
+    requires sides { (0 < y) × (y < next) × (next ≤ y + 2) × (next < img.now.shape.height) }
+    requires whole { y * img.now.shape.width + length rows.old ≡ next * img.now.shape.width }
+    ensures { rows.new ≡ tabulate (length rows.old) (λ p. response_at img.now.samples.now img.now.shape.width img.now.shape.height (y * img.now.shape.width + p)) }
 {
-    clear(&mut out[0..width]);
-    let last = height - 1;
-    let mut y = 1;
-    while y + 1 < last {
-        let start = y * width;
-        let end = start + width + width;
-        inner_pair(&mut out[start..end], img, width, height, y);
-        y += 2;
+    if y + 1 < next {
+        inner_pair(rows, img, y);
+    } else {
+        inner_row(rows, img, y);
     }
-    while y < last {
-        let start = y * width;
-        let end = start + width;
-        inner_row(&mut out[start..end], img, height, y);
-        y += 1;
+}
+
+/// The response of a plane into `out`. The rows off the border are written two at a time, and one that is left over by itself. The
+/// first and the last row are written outside of the loop. So every row that the loop could read lies in the plane, and the
+/// compiler's test for overlap, which goes by those rows, does not keep the vector instructions from planes that stand side by side
+/// in memory.
+#[tactic(auto, using(lists::proofs::Rows::row_fits))]
+pub fn hessian_response(img: &Plane, out: &mut [f32])
+    requires { (0 < img.now.shape.height) × (length out.old ≡ length img.now.samples.now) }
+    ensures { out.new ≡ response img.now.samples.now img.now.shape.width img.now.shape.height }
+{
+    let width = img.shape.width;
+    let last = img.shape.height - 1;
+    out[0..width].fill(0.0);
+    for y in (1..last).step_by(2) {
+        let next = last.min(y + 2);
+        inner_rows(&mut out[y * width..next * width], img, y, next);
     }
-    if y < height {
-        let start = y * width;
-        let end = start + width;
-        clear(&mut out[start..end]);
-    }
+    out[last * width..].fill(0.0);
 }

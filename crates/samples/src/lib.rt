@@ -1,46 +1,44 @@
-// Samples of a slice: the tests of all of them that refusals 2 and 3 make, and a row of zeros.
+//! Planes of f32 samples that a caller lends, checked once, and the tests of all samples that refusals 2 and 3 make.
 #![tactic(auto)]
 
-ghost use Rattle.std.specs.Prelude.{◌≡◌, length};
-ghost use Rattle.lists.specs.Tab.{all, tabulate};
-ghost use Rattle.samples.specs.Samples.{between, zero_f, in_unit, tame};
+mod bounds;
 
-// Every sample is from `low` to `high`. One flag is gathered to the end of the slice, since a loop that ends at the first
-// sample outside is not turned into vector instructions and takes five times as long.
-fn all_between(samples: &[f32], low: f32, high: f32) -> bool
-    ensures { result ≡ all (between low high) samples.now }
-{
-    let mut good = true;
-    let mut i = 0;
-    while i < samples.len() {
-        let v = samples[i];
-        good = good & ((low <= v) & (v <= high));
-        i += 1;
+ghost use Rattle.std.specs.Prelude.{◌≡◌, ◌*◌, ◌<◌, false, true, length, take, drop, IfOk, IfErr};
+ghost use Rattle.refusals.specs.Plane.{bad_plane};
+
+pub use bounds::{Bounds, TAME, UNIT};
+use refusals::{Refusal, Shape, bad_plane};
+
+/// A lent plane of samples whose length fits its sides. What refusal 1 lets through is one; how large the sides may be is asked by that
+/// refusal alone.
+#[derive(Clone, Copy)]
+pub struct Plane<'a> {
+    pub samples: &'a [f32],
+    pub shape: Shape,
+    ghost wide: { 0 < shape.width },
+    ghost whole: { length samples.now ≡ shape.width * shape.height },
+}
+
+impl<'a> Plane<'a> {
+    /// The plane, where its sides and its length are good, and else refusal 1.
+    pub fn new(samples: &'a [f32], shape: Shape) -> Result<Plane<'a>, Refusal>
+        ensures ok { IfOk result (λ p. (p.samples.now ≡ samples.now) × (p.shape ≡ shape) × (bad_plane (length samples.now) shape.width shape.height ≡ false)) }
+        ensures refused { IfErr result (λ e. (e ≡ Refusal.Plane) × (bad_plane (length samples.now) shape.width shape.height ≡ true)) }
+    {
+        if bad_plane(samples.len(), shape.width, shape.height) {
+            return Err(Refusal::Plane);
+        }
+        Ok(Plane { samples, shape })
     }
-    good
-}
 
-// Every sample is from 0.0 to 1.0.
-pub fn all_in_unit(samples: &[f32]) -> bool
-    ensures { result ≡ all in_unit samples.now }
-{
-    all_between(samples, 0.0, 1.0)
-}
-
-// Every sample has a magnitude of at most 65,536.
-pub fn all_tame(samples: &[f32]) -> bool
-    ensures { result ≡ all tame samples.now }
-{
-    all_between(samples, -65536.0, 65536.0)
-}
-
-// Makes every sample of a row 0.0.
-pub fn clear(row: &mut [f32])
-    ensures { row.new ≡ tabulate (length row.old) (λ x. zero_f) }
-{
-    let mut i = 0;
-    while i < row.len() {
-        row[i] = 0.0;
-        i += 1;
+    /// Row `y`.
+    #[tactic(auto, using(crate::proofs::Laws::row_within))]
+    pub fn row(&self, y: usize) -> &'a [f32]
+        requires { y < self.now.shape.height }
+        ensures { result.now ≡ take self.now.shape.width (drop (y * self.now.shape.width) self.now.samples.now) }
+    {
+        let width = self.shape.width;
+        let start = y * width;
+        &self.samples[start..start + width]
     }
 }

@@ -1,18 +1,14 @@
 -- The search's answer in the papers' numbers. Assumes nothing.
-use Rattle.std.specs.Prelude.{ℕ}
+use Rattle.std.specs.Prelude.{Option, Some, None}
 use Rattle.refusals.specs.Outcome.{Outcome, accepted, refused}
 use Rattle.search.specs.Search.{Seen}
-use Rattle.search.specs.declared.Found.{Found}
-use Rattle.search.specs.declared.Found.TheVariants.{Tag, Unread, BadTable}
+use Rattle.search.specs.declared.Match.{Match}
+use Rattle.search.specs.declared.SearchResult.{SearchResult}
+
+abbrev pub paper_match : Option Match → Outcome Seen
+paper_match (Some m) = accepted (record { id = m.id; turn = m.turn; differing = m.differing })
+paper_match None = refused 13
 
 -- id, turn and differing modules, or the refusal
-abbrev pub paper_found : Found → Outcome Seen
-paper_found (Tag id turn differing compared) = accepted (record { id = id; turn = turn; differing = differing })
-paper_found (Unread compared) = refused 13
-paper_found BadTable = refused 6
-
--- the count of codes compared, "given beside 13" too; a table that is refused has none
-abbrev pub paper_count : Found → Outcome ℕ
-paper_count (Tag id turn differing compared) = accepted compared
-paper_count (Unread compared) = accepted compared
-paper_count BadTable = refused 6
+abbrev pub paper_found : SearchResult → Outcome Seen
+paper_found s = paper_match s.found

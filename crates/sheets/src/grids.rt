@@ -1,135 +1,137 @@
-// The whole sheets of a table: its grids, and the lines that are printed of them.
-ghost use Rattle.std.specs.Prelude.{◌<◌, ◌≤◌};
-
-use crate::boards::{Board, readings, refusal_of, tags_of};
-use crate::list_readings::refused;
-use crate::{codes, kinds};
+//! The whole sheets of a table: its grids, and the lines that are printed of them.
+use crate::boards::{Board, tags_of};
+use crate::tags::{Misprint, Tag};
+use crate::tried::{Sides, Tried};
 use grid::Grid;
 use refusals::packed_frame;
 use std::io;
-use tables::Family;
-use vectors::{Tally, least, product, report, say};
+use vectors::Tally;
 
-// The rows of the grids, and their columns. First those of every table, of which four have a side of 0 or 33 tags, and others more
-// tags than the table has codes. Then three for each table: the largest are of all its codes, but of 580 where they are 587, which is
-// a prime.
-const ROWS: [usize; 30] = [
-    0, 1, 33, 1, 32, 12, 1, 32, 1, 5, 1, 30, 11, 22, 2, 5, 7, 2, 20, 29, 2, 20, 29, 2, 3, 1, 12, 2,
-    1, 8,
+/// The grids of every table: four have a side of 0 or 33 tags, and others more tags than the table has codes.
+const SIDES: [Sides; 9] = [
+    Sides {
+        rows: 0,
+        columns: 1,
+    },
+    Sides {
+        rows: 1,
+        columns: 0,
+    },
+    Sides {
+        rows: 33,
+        columns: 1,
+    },
+    Sides {
+        rows: 1,
+        columns: 33,
+    },
+    Sides {
+        rows: 32,
+        columns: 32,
+    },
+    Sides {
+        rows: 12,
+        columns: 12,
+    },
+    Sides {
+        rows: 1,
+        columns: 32,
+    },
+    Sides {
+        rows: 32,
+        columns: 1,
+    },
+    Sides {
+        rows: 1,
+        columns: 1,
+    },
 ];
 
-const COLUMNS: [usize; 30] = [
-    1, 0, 1, 33, 32, 12, 32, 1, 1, 6, 30, 1, 22, 11, 32, 7, 5, 16, 29, 20, 32, 29, 20, 32, 4, 12,
-    1, 4, 8, 1,
+/// The gap and the cell of a sheet.
+#[derive(Clone, Copy, Debug, PartialEq, Eq)]
+struct Spacing {
+    gap: usize,
+    cell: usize,
+}
+
+/// Those of the five sheets of a grid.
+const SPACINGS: [Spacing; 5] = [
+    Spacing { gap: 1, cell: 1 },
+    Spacing { gap: 16, cell: 1 },
+    Spacing { gap: 1, cell: 2 },
+    Spacing { gap: 16, cell: 2 },
+    Spacing { gap: 1, cell: 3 },
 ];
 
-// The gaps and the cells of the five sheets of a grid.
-const GAPS: [usize; 5] = [1, 16, 1, 16, 1];
+/// So many tags in a line of the grid, in pixels.
+fn length(side: usize, gap: usize, cell: usize, count: usize) -> usize {
+    side.saturating_add(gap)
+        .saturating_mul(count)
+        .saturating_sub(gap)
+        .saturating_mul(cell)
+}
 
-const CELLS: [usize; 5] = [1, 1, 2, 2, 3];
-
-// Where grid g of a table stands.
-fn place(number: u8, g: usize) -> usize
-    ensures { result < 30 }
-{
-    if g < 9 {
-        return g;
+impl Sides {
+    /// Whether the painter takes the grid with so many codes.
+    fn is_good(self, codes: usize) -> bool {
+        (1..=32).contains(&self.rows)
+            && (1..=32).contains(&self.columns)
+            && self.rows.saturating_mul(self.columns) <= codes
     }
-    9 + (number as usize * 3 + g % 3) % 21
-}
 
-// Grid g of a table, with the gap of sheet p.
-fn nth(number: u8, g: usize, p: usize) -> Grid {
-    let at = place(number, g);
-    Grid {
-        rows: ROWS[at],
-        columns: COLUMNS[at],
-        gap: GAPS[p % 5],
+    /// Sheet p of the grid, at one of the four turns. The grid begins in the plane's first line and column or in its second, and ends
+    /// one pixel before the last. Large grids have cells of 1 only.
+    fn board<'a>(self, table: &'a Tried, p: usize, spacing: Spacing) -> Board<'a> {
+        let Spacing { gap, cell } = spacing;
+        let grid = Grid {
+            rows: self.rows,
+            columns: self.columns,
+            gap,
+        };
+        let cell = if 144 < tags_of(grid) { 1 } else { cell };
+        let tag = Tag::new(table, 0, cell, p, Misprint::NONE);
+        let side = table.side();
+        let x = p % 2;
+        let y = p / 2 % 2;
+        let wide = length(side, gap, cell, self.columns);
+        let high = length(side, gap, cell, self.rows);
+        let frame = packed_frame(wide.saturating_add(x + 1), high.saturating_add(y + 1));
+        Board {
+            grid,
+            tag: tag.placed(x, y, frame),
+        }
+    }
+
+    /// Counts the readings of the sheets of a grid that the painter takes.
+    fn count(self, table: &Tried, plane: &mut [u8]) -> Tally {
+        let mut tally = Tally::new();
+        for (p, spacing) in SPACINGS.iter().enumerate() {
+            self.board(table, p, *spacing)
+                .paint_and_count(plane, &mut tally);
+        }
+        tally
+    }
+
+    /// Prints the line of the grid: the readings of its sheets or, where the painter does not take it, what refuses the first one.
+    fn print(self, rt: &impl Print, table: &Tried, plane: &mut [u8]) -> io::Result<()> {
+        let Sides { rows, columns } = self;
+        print!(rt; "  sheets of {rows} x {columns}")?;
+        if self.is_good(table.codes.len()) {
+            println!(rt; ": {}", self.count(table, plane))
+        } else {
+            let refusal = self.board(table, 0, SPACINGS[0]).refusal(plane);
+            println!(rt; " refused by {refusal}")
+        }
     }
 }
 
-// Whether grid g is one that the painter takes.
-fn is_good(number: u8, g: usize) -> bool {
-    (4 <= g) & (tags_of(nth(number, g, 0)) <= codes::count(number))
-}
-
-// So many tags in a line of the grid, in pixels.
-fn length(family: Family, gap: usize, cell: usize, count: usize) -> usize
-    ensures { result ≤ 4000 }
-{
-    let side = family.edge as usize + 2 * (family.border as usize);
-    let cells = product(count, side + least(gap, 16), 4000);
-    product(cells - least(gap, cells), cell, 4000)
-}
-
-// Large grids have cells of 1 only.
-fn cell_of(grid: Grid, p: usize) -> usize {
-    if 144 < tags_of(grid) { 1 } else { CELLS[p % 5] }
-}
-
-// Sheet p of grid g, at one of the four turns. The grid begins in the plane's first line and column or in its second, and ends one
-// pixel before the last.
-fn nth_board(number: u8, g: usize, p: usize) -> Board {
-    let grid = nth(number, g, p);
-    let cell = cell_of(grid, p);
-    let mut tag = kinds::sheet_of(number, 0, cell, p, kinds::clean());
-    let mut print = tag.print;
-    let x = p % 2;
-    let y = p / 2 % 2;
-    let wide = length(tag.family, grid.gap, cell, grid.columns);
-    let high = length(tag.family, grid.gap, cell, grid.rows);
-    print.x = x;
-    print.y = y;
-    tag.print = print;
-    tag.frame = packed_frame(x + wide + 1, y + high + 1);
-    Board { grid, tag }
-}
-
-// A sheet in the first bytes of `plane`, which are exactly its own plane.
-fn one_sheet(plane: &mut [u8], table: &[u64], board: Board, tally: Tally) -> Tally {
-    let frame = board.tag.frame;
-    let n = product(frame.width, frame.height, plane.len());
-    readings(&mut plane[0..n], table, board, tally)
-}
-
-// The sheets of a grid that the painter takes.
-fn one_grid(plane: &mut [u8], table: &[u64], number: u8, g: usize) -> Tally {
-    let mut sum = Tally::new();
-    let mut p = 0;
-    while p < 5 {
-        sum = one_sheet(plane, table, nth_board(number, g, p), sum);
-        p += 1;
+/// The lines of a table.
+pub fn print(rt: &impl Print, table: &Tried, plane: &mut [u8]) -> io::Result<()> {
+    for sides in SIDES {
+        sides.print(rt, table, plane)?;
     }
-    sum
-}
-
-// What refuses the first sheet of a grid that the painter does not take.
-fn refusal(plane: &mut [u8], table: &[u64], board: Board) -> u8 {
-    let frame = board.tag.frame;
-    let n = product(frame.width, frame.height, plane.len());
-    refusal_of(&mut plane[0..n], table, board)
-}
-
-fn say_sides(rt: &impl Print, grid: Grid) -> io::Result<()> {
-    say(rt, b"  sheets of ", grid.rows as u64)?;
-    say(rt, b" x ", grid.columns as u64)
-}
-
-// The line of grid g.
-fn line(rt: &impl Print, plane: &mut [u8], table: &[u64], number: u8, g: usize) -> io::Result<()> {
-    say_sides(rt, nth(number, g, 0))?;
-    if is_good(number, g) {
-        return report(rt, b":", one_grid(plane, table, number, g));
-    }
-    refused(rt, refusal(plane, table, nth_board(number, g, 0)))
-}
-
-// The lines of a table.
-pub fn all(rt: &impl Print, plane: &mut [u8], table: &[u64], number: u8) -> io::Result<()> {
-    let mut g = 0;
-    while g < 12 {
-        line(rt, plane, table, number, g)?;
-        g += 1;
+    for sides in table.grids {
+        sides.print(rt, table, plane)?;
     }
     Ok(())
 }

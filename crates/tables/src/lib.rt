@@ -1,26 +1,25 @@
 // A table: a list of codes, and what a reader has to know of it. Refusal 6 says which tables are taken.
 #![tactic(auto)]
 
+pub mod checked;
+
 ghost use Rattle.std.specs.Prelude.{◌≡◌, false, ◌^◌, ◌<◌};
 ghost use Rattle.lists.specs.Tab.{all};
 ghost use Rattle.tables.specs.Table.{outside, bad_edge, bad_border, below, in_square, bad_codes, bad_table};
 
 // The edge of the square of modules, the border around it in modules, and the match threshold.
-#[derive(Clone, Copy)]
+#[derive(Clone, Copy, Debug, PartialEq, Eq)]
 pub struct Family {
     pub edge: u8,
     pub border: u8,
     pub hamming_distance: u8,
 }
 
-// `n` is not one of `lo`, .., `hi`.
+/// `n` is not one of `lo`, .., `hi`.
 pub fn is_outside(lo: usize, hi: usize, n: usize) -> bool
     ensures { result ≡ outside lo hi n }
 {
-    if n < lo {
-        return true;
-    }
-    hi < n
+    n < lo || hi < n
 }
 
 pub fn bad_edge(edge: u8) -> bool
@@ -42,10 +41,8 @@ fn all_below(codes: &[u64], places: u64) -> bool
     ensures { result ≡ all (below (2 ^ places)) codes.now }
 {
     let mut gathered: u64 = 0;
-    let mut i = 0;
-    while i < codes.len() {
-        gathered = gathered | codes[i];
-        i += 1;
+    for code in codes {
+        gathered |= *code;
     }
     gathered < (1 << places)
 }
@@ -62,28 +59,21 @@ pub fn codes_fit(codes: &[u64], edge: u8) -> bool
     all_below(codes, e * e)
 }
 
-// Refusal 6 for a table of which all is lent but the border.
+/// Refusal 6 for a table of which all is lent but the border.
+#[tactic(auto, unfolding(crate::specs::Table::bad_codes))]
 pub fn bad_codes(edge: u8, hamming_distance: u8, codes: &[u64]) -> bool
     ensures { result ≡ bad_codes edge hamming_distance codes.now }
 {
-    if bad_edge(edge) {
-        return true;
-    }
-    if is_outside(1, 1024, codes.len()) {
-        return true;
-    }
-    if is_outside(1, 64, hamming_distance as usize) {
-        return true;
-    }
-    !codes_fit(codes, edge)
+    bad_edge(edge)
+        || is_outside(1, 1024, codes.len())
+        || is_outside(1, 64, hamming_distance as usize)
+        || !codes_fit(codes, edge)
 }
 
-// Refusal 6 for a whole table.
+/// Refusal 6 for a whole table.
+#[tactic(auto, unfolding(crate::specs::Table::bad_table))]
 pub fn bad_table(family: Family, codes: &[u64]) -> bool
     ensures { result ≡ bad_table family codes.now }
 {
-    if bad_border(family.border) {
-        return true;
-    }
-    bad_codes(family.edge, family.hamming_distance, codes)
+    bad_border(family.border) || bad_codes(family.edge, family.hamming_distance, codes)
 }

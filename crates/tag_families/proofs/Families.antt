@@ -1,19 +1,18 @@
--- The code lists' bounds, each computed once over the whole list and carried to each position; what refusal 6 says of the
--- families; and where a family's codes stand among all of them. Assumes nothing.
+-- The code lists' bounds, each computed once over the whole list and carried to each position; and what refusal 6 says of
+-- the families. Assumes nothing.
 use mathlib.Core.Path.{◌≡◌, refl, ap, ap₂, ◌∙◌}
 use mathlib.Core.Bool.{Bool, true, false, not, ◌||◌}
-use mathlib.Core.List.{List, [], ◌∷◌}
-use Prim.Native.Nat.{ℕ, zero, suc, ◌+◌, ◌*◌, ◌^◌, ◌<◌, ◌≤◌}
+use mathlib.Core.List.{List}
+use Prim.Native.Nat.{ℕ, zero, suc, ◌*◌, ◌^◌, ◌<◌}
 use native.Mathlib.Omega.{arith}
 use borrow.Author.Tests.{ltb-true}
-use lib.ListN.{length, get_or, take, drop}
+use lib.ListN.{length, get_or}
 use Rattle.lists.specs.Tab.{all}
 use Rattle.lists.proofs.All.{all_at}
 use Rattle.tables.specs.declared.Family.{Family}
 use Rattle.tables.specs.Table.{outside, bad_edge, bad_border, in_square, bad_table}
 use Rattle.tag_families.specs.Codes.{t16h5, t25h7, t25h9, t36h11}
 use Rattle.tag_families.specs.Families.{family_of, codes_of}
-use Rattle.tag_families.specs.Part.{all_codes}
 
 -- "Every one of the 587 T36H11 codes is below 2^36, the T25 codes below 2^25, the T16H5 codes below 2^16."
 t16h5-all : all (in_square 4) t16h5 ≡ true
@@ -64,19 +63,3 @@ families_pass n known =
 -- and so every table that is a family's
 pub table_passes : {n : ℕ} {family : Family} {codes : List ℕ} → n < 5 → family ≡ family_of n → codes ≡ codes_of n → bad_table family codes ≡ false
 table_passes {n} known e d = ap₂ bad_table e d ∙ families_pass n known
-
--- where the codes of family n start among all codes, and how many they are
-abbrev pub start : ℕ → ℕ
-start n = get_or (0 ∷ 30 ∷ 272 ∷ 307 ∷ 307 ∷ []) n 0
-
-abbrev pub count : ℕ → ℕ
-count n = get_or (30 ∷ 242 ∷ 35 ∷ 587 ∷ 587 ∷ []) n 0
-
-pub counted : (n : ℕ) → n < 5 → count n ≡ length (codes_of n)
-counted = by_family (λ (n : ℕ). count n ≡ length (codes_of n)) refl refl refl refl refl
-
-pub fits : (n : ℕ) → n < 5 → start n + count n ≤ 894
-fits = by_family (λ (n : ℕ). start n + count n ≤ 894) (omega arith) (omega arith) (omega arith) (omega arith) (omega arith)
-
-pub part : (n : ℕ) → n < 5 → take (count n) (drop (start n) all_codes) ≡ codes_of n
-part = by_family (λ (n : ℕ). take (count n) (drop (start n) all_codes) ≡ codes_of n) refl refl refl refl refl

@@ -4,14 +4,15 @@
 
 pub mod codes;
 
-ghost use Rattle.std.specs.Prelude.{◌≡◌, ◌*◌, ◌^◌, ◌<◌, length, get_or};
-ghost use Rattle.tag_families.specs.Families.{family_of, codes_of};
-ghost use Rattle.tag_families.specs.Part.{all_codes};
+ghost use Rattle.std.specs.Prelude.{◌≡◌, true, false, ◌*◌, ◌^◌, ◌<◌, length, get_or, IfOk, IfErr};
+ghost use Rattle.tag_families.specs.Families.{is_family, family_of, codes_of};
 
-use codes::CODES;
+use codes::{T16H5, T25H7, T25H9, T36H11};
+use refusals::Refusal;
 use tables::Family;
+use tables::checked::Table;
 
-const FAMILIES: [Family; 5] = [
+static FAMILIES: [Family; 5] = [
     Family {
         edge: 4,
         border: 2,
@@ -39,12 +40,7 @@ const FAMILIES: [Family; 5] = [
     },
 ];
 
-// Where each family's codes start among all codes, and how many they are.
-const STARTS: [usize; 5] = [0, 30, 272, 307, 307];
-
-const COUNTS: [usize; 5] = [30, 242, 35, 587, 587];
-
-// What the small table says of a family.
+/// What the small table says of a family.
 pub fn family(number: u8) -> Family
     requires { number < 5 }
     ensures { result ≡ family_of number }
@@ -52,30 +48,45 @@ pub fn family(number: u8) -> Family
     FAMILIES[number as usize]
 }
 
-// The codes of a family, a part of all codes.
-pub fn codes_of(number: u8, all: &[u64]) -> &[u64]
-    requires { (number < 5) × (all.now ≡ all_codes) }
+/// The codes of a family.
+pub fn codes_of(number: u8) -> &'static [u64]
+    requires { number < 5 }
     ensures { result.now ≡ codes_of number }
 {
-    let start = STARTS[number as usize];
-    let end = start + COUNTS[number as usize];
-    &all[start..end]
+    match number {
+        0 => &T16H5,
+        1 => &T25H7,
+        2 => &T25H9,
+        _ => &T36H11,
+    }
 }
 
-// How many codes a family has.
+/// How many codes a family has.
 pub fn code_count(number: u8) -> usize
     requires { number < 5 }
     ensures { result ≡ length (codes_of number) }
 {
-    COUNTS[number as usize]
+    codes_of(number).len()
 }
 
-// The code of a family at a position, which is a word of edge² bits.
+/// The code of a family at a position, which is a word of edge² bits.
 pub fn code(number: u8, position: usize) -> u64
     requires { (number < 5) × (position < length (codes_of number)) }
     ensures { (result ≡ get_or (codes_of number) position 0) × (result < 2 ^ ((family_of number).edge * (family_of number).edge)) }
 {
-    let all = CODES;
-    let codes = codes_of(number, &all);
-    codes[position]
+    codes_of(number)[position]
+}
+
+/// The table of a family, and refusal 6 where there is no such family.
+pub fn table(number: u8) -> Result<Table<'static>, Refusal>
+    ensures ok { IfOk result (λ t. (t.family ≡ family_of number) × (t.codes.now ≡ codes_of number) × (is_family number ≡ true)) }
+    ensures refused { IfErr result (λ e. (e ≡ Refusal.Table) × (is_family number ≡ false)) }
+{
+    if 5 <= number {
+        return Err(Refusal::Table);
+    }
+    Ok(Table {
+        family: family(number),
+        codes: codes_of(number),
+    })
 }

@@ -1,46 +1,57 @@
-// Bytes, of a text or of a report, put into a buffer piece by piece: each function gives the place after what it has put.
+// Bytes, of a text or of a report, put into a buffer piece by piece.
 #![tactic(auto)]
 
-ghost use Rattle.std.specs.Prelude.{[], ◌∷◌, ◌+◌, ◌≤◌, ◌<◌, length};
+ghost use Rattle.std.specs.Prelude.{◌≡◌, [], ◌∷◌, ◌<◌, length};
 ghost use Rattle.text.specs.Text.{space, decimal};
-ghost use Rattle.text.specs.Put.{Put};
+ghost use Rattle.text.specs.Put.{Put, HasRoom};
 
-// Puts a text into `out` at place `at`.
-pub fn put(text: &[u8], out: &mut [u8], at: usize) -> usize
-    requires { at + length text.now ≤ length out.old }
-    ensures { Put text.now out.old at out.new result }
-{
-    let end = at + text.len();
-    out[at..end].copy_from_slice(text);
-    end
+/// A lent buffer, and the place in it behind what has been put. No byte before that place or behind what is put changes.
+#[derive(Drop)]
+pub struct Output<'a> {
+    pub bytes: &'a mut [u8],
+    pub at: usize,
 }
 
-// Puts one byte.
-pub fn put_byte(byte: u8, out: &mut [u8], at: usize) -> usize
-    requires { at < length out.old }
-    ensures { Put (byte ∷ []) out.old at out.new result }
-{
-    out[at] = byte;
-    at + 1
-}
-
-// Puts a number of one or two digits in decimal.
-pub fn put_decimal(n: u8, out: &mut [u8], at: usize) -> usize
-    requires { (n < 100) × (at + length (decimal n) ≤ length out.old) }
-    ensures { Put (decimal n) out.old at out.new result }
-{
-    if n < 10 {
-        return put_byte(b'0' + n, out, at);
+impl<'a> Output<'a> {
+    /// Puts a text.
+    pub fn put(&mut self, text: &[u8])
+        requires { HasRoom self.old (length text.now) }
+        ensures { Put text.now self.old self.new }
+    {
+        let end = self.at + text.len();
+        self.bytes[self.at..end].copy_from_slice(text);
+        self.at = end;
     }
-    let tens_end = put_byte(b'0' + n / 10, out, at);
-    put_byte(b'0' + n % 10, out, tens_end)
-}
 
-// Puts a space and a number of one or two digits in decimal.
-pub fn put_number(n: u8, out: &mut [u8], at: usize) -> usize
-    requires { (n < 100) × (at + 3 ≤ length out.old) }
-    ensures { Put (space ∷ decimal n) out.old at out.new result }
-{
-    let space_end = put_byte(b' ', out, at);
-    put_decimal(n, out, space_end)
+    /// Puts one byte.
+    pub fn put_byte(&mut self, byte: u8)
+        requires { HasRoom self.old 1 }
+        ensures { Put (byte ∷ []) self.old self.new }
+    {
+        self.bytes[self.at] = byte;
+        self.at += 1;
+    }
+
+    /// Puts a number of one or two digits in decimal.
+    pub fn put_decimal(&mut self, n: u8)
+        requires { (n < 100) × HasRoom self.old (length (decimal n)) }
+        ensures { Put (decimal n) self.old self.new }
+    {
+        let is_digit = n < 10;
+        if is_digit {
+            self.put_byte(b'0' + n);
+        } else {
+            self.put_byte(b'0' + n / 10);
+            self.put_byte(b'0' + n % 10);
+        }
+    }
+
+    /// Puts a space and a number of one or two digits in decimal.
+    pub fn put_number(&mut self, n: u8)
+        requires { (n < 100) × HasRoom self.old 3 }
+        ensures { Put (space ∷ decimal n) self.old self.new }
+    {
+        self.put_byte(b' ');
+        self.put_decimal(n);
+    }
 }

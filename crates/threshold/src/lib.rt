@@ -1,14 +1,15 @@
-// The threshold.
+//! The threshold below which samples of a response are clustered.
 #![tactic(auto)]
 
-ghost use Rattle.std.specs.Prelude.{◌≡◌, true, ◌<◌, length, get_or};
-ghost use Rattle.std.specs.Float.{nan};
-ghost use Rattle.std.specs.Float.Ieee.{eq};
-ghost use Rattle.lists.specs.Tab.{all, tabulate};
+ghost use Rattle.std.specs.Prelude.{◌≡◌, ◌↔◌, true, cond, ◌<◌, length, IsSome, IfSome};
+ghost use Rattle.std.specs.Float.Ieee.{eq, le};
+ghost use Rattle.std.specs.Simd.Lanes.{zip2};
+ghost use Rattle.lists.specs.Tab.{all};
 ghost use Rattle.samples.specs.Samples.{tame};
 ghost use Rattle.threshold.specs.Threshold.{lesser, lowest_of, lowest, threshold_of, threshold};
 
-use samples::all_tame;
+use samples::TAME;
+use std::simd::prelude::*;
 
 // The lesser of two, `a` where they are equal.
 fn lesser(a: f32, b: f32) -> f32
@@ -17,64 +18,45 @@ fn lesser(a: f32, b: f32) -> f32
     if b < a { b } else { a }
 }
 
-// Lowers each of `lows` to the sample at its place.
-fn lower_each(lows: &mut [f32], samples: &[f32])
-    requires { length samples.now ≡ length lows.old }
-    ensures { lows.new ≡ tabulate (length lows.old) (λ i. lesser (get_or lows.old i nan) (get_or samples.now i nan)) }
-{
-    let mut i = 0;
-    while i < lows.len() {
-        lows[i] = lesser(lows[i], samples[i]);
-        i += 1;
-    }
-}
-
 // The lowest of `low` and the samples.
 fn lowest_of(low: f32, samples: &[f32]) -> f32
     ensures { result ≡ lowest_of low samples.now }
 {
     let mut least = low;
-    let mut i = 0;
-    while i < samples.len() {
-        least = lesser(least, samples[i]);
-        i += 1;
+    for &sample in samples {
+        least = lesser(least, sample);
     }
     least
 }
 
-// What one pass over a plane finds.
-#[derive(Clone, Copy)]
-struct Lowest {
-    low: f32,
-    tame: bool,
+// Lowers each lane to the sample at its place.
+fn lower_each(lanes: f32x16, samples: f32x16) -> f32x16
+    ensures { result ≡ zip2 (λ a b. cond (le a b) a b) lanes samples }
+{
+    lanes.simd_le(samples).select(lanes, samples)
 }
 
-// The lowest sample, and whether every sample has a magnitude of at most 65,536. Where all have, `low` is the lowest as a
-// number: where it is zero, it may be either zero. Thirty-two lanes are gathered side by side, since each step of a single one
-// would wait for the step before it.
-fn find_lowest(samples: &[f32]) -> Lowest
+// The lowest sample, or `None` where one has a magnitude above 65,536 or is a NaN. Where the lowest is a zero, the answer may be
+// either zero. Sixteen lanes are gathered side by side, since each step of a single one would wait for the step before it.
+fn find_lowest(samples: &[f32]) -> Option<f32>
     requires { 0 < length samples.now }
-    ensures { (result.tame ≡ all tame samples.now) × (result.tame ≡ true → eq result.low (lowest samples.now) ≡ true) }
+    ensures tame { IsSome result ↔ (all tame samples.now ≡ true) }
+    ensures low { IfSome result (λ low. eq low (lowest samples.now) ≡ true) }
 {
-    let first = samples[0];
-    let mut lanes = [first; 32];
-    let mut good = true;
-    let mut i = 0;
-    while i + 32 <= samples.len() {
-        let next = i + 32;
-        let block = &samples[i..next];
-        good = good & all_tame(block);
-        lower_each(&mut lanes, block);
-        i = next;
+    let (blocks, rest) = samples.as_chunks::<16>();
+    let mut lanes = f32x16::splat(samples[0]);
+    for block in blocks {
+        let block_lanes = f32x16::from_array(*block);
+        if !TAME.hold_lanes(block_lanes) {
+            return None;
+        }
+        lanes = lower_each(lanes, block_lanes);
     }
-    let gathered = lowest_of(first, &lanes);
-    let rest = &samples[i..];
-    let low = lowest_of(gathered, rest);
-    good = good & all_tame(rest);
-    Lowest {
-        low: low,
-        tame: good,
+    if !TAME.hold(rest) {
+        return None;
     }
+    let gathered = lowest_of(samples[0], &lanes.to_array());
+    Some(lowest_of(gathered, rest))
 }
 
 // The lowest sample times 0.05, where a zero is +0.0.
@@ -85,23 +67,13 @@ fn threshold_of(low: f32) -> f32
     if t == 0.0 { 0.0 } else { t }
 }
 
-// The threshold of a response, and whether every sample has a magnitude of at most 65,536. Where one has not, the threshold
-// means nothing.
-#[derive(Clone, Copy)]
-pub struct Found {
-    pub threshold: f32,
-    pub tame: bool,
-}
-
-// The threshold of a response, which is tested in the same pass.
-pub fn response_threshold(response: &[f32]) -> Found
+/// The threshold of a response, or `None` where one of its samples has a magnitude above 65,536 or is a NaN. The samples are tested
+/// in the pass that finds the lowest.
+pub fn response_threshold(response: &[f32]) -> Option<f32>
     requires { 0 < length response.now }
-    ensures { (result.tame ≡ all tame response.now) × (result.tame ≡ true → result.threshold ≡ threshold response.now) }
+    ensures tame { IsSome result ↔ (all tame response.now ≡ true) }
+    ensures value { IfSome result (λ t. t ≡ threshold response.now) }
 {
-    let lowest = find_lowest(response);
-    let threshold = threshold_of(lowest.low);
-    Found {
-        threshold: threshold,
-        tame: lowest.tame,
-    }
+    let low = find_lowest(response)?;
+    Some(threshold_of(low))
 }

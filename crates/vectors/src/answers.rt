@@ -1,115 +1,150 @@
-// The answer of a reader of quads, from whatever says it: a reading, a row of a list, or the bytes of a frame.
-use crate::floats::pattern_of;
-use crate::{floats, rest, u8_at, u16_at};
+//! The answer of a reader of quads, from whatever says it: a reading, a row of a list, or the bytes of a frame. Floats stand in it by
+//! their patterns, so that two answers are equal where they are bit for bit, a NaN like every other.
+ghost use Rattle.std.specs.Prelude.{◌≡◌, IfOk, IfErr};
+ghost use Rattle.refusals.specs.Numbers;
+
+use crate::floats::{f32_at, pattern_of};
+use crate::{rest, u8_at, u16_at};
 use listing::ROW_SIZE;
 use points::{Point, QUAD_SIZE, Quad};
 use reader::Reading;
+use refusals::Refusal;
 
-// A refusal number, 0 where there is none, id, turn, differing modules and corners.
-#[derive(Clone, Copy)]
+/// The number of a call's answer, 0 where it is accepted.
+pub fn number_of<T: Drop>(answer: Result<T, Refusal>) -> u8
+    ensures accepted { IfOk answer (λ _. result ≡ 0) }
+    ensures refused { IfErr answer (λ refusal. result ≡ Numbers.number_of refusal) }
+{
+    match answer {
+        Ok(_) => 0,
+        Err(refusal) => refusal.number(),
+    }
+}
+
+/// The patterns of a quad's eight numbers.
+#[derive(Clone, Copy, Debug, PartialEq, Eq)]
+pub struct Corners([u32; QUAD_SIZE]);
+
+impl Corners {
+    /// Eight times the same number.
+    pub fn all(x: f32) -> Self {
+        Corners([pattern_of(x); QUAD_SIZE])
+    }
+
+    /// The corners in 32 bytes.
+    pub fn at(s: &[u8]) -> Self {
+        Corners::from(quad_at(s))
+    }
+}
+
+impl From<[f32; QUAD_SIZE]> for Corners {
+    fn from(numbers: [f32; QUAD_SIZE]) -> Self {
+        Corners(numbers.map(pattern_of))
+    }
+}
+
+impl From<Quad> for Corners {
+    fn from(quad: Quad) -> Self {
+        let Quad { q0, q1, q2, q3 } = quad;
+        Corners::from([q0.x, q0.y, q1.x, q1.y, q2.x, q2.y, q3.x, q3.y])
+    }
+}
+
+fn point_at(s: &[u8], at: usize) -> Point {
+    let t = rest(s, at);
+    Point {
+        x: f32_at(t, 0),
+        y: f32_at(t, 4),
+    }
+}
+
+/// A quad of eight floats in 32 bytes.
+pub fn quad_at(s: &[u8]) -> Quad {
+    Quad {
+        q0: point_at(s, 0),
+        q1: point_at(s, 8),
+        q2: point_at(s, 16),
+        q3: point_at(s, 24),
+    }
+}
+
+/// A refusal number, 0 where there is none, id, turn, differing modules and corners.
+#[derive(Clone, Copy, Debug, PartialEq, Eq)]
 pub struct Answer {
     pub refusal: u64,
     pub id: u64,
     pub turn: u64,
     pub differing: u64,
-    pub corners: Quad,
+    pub corners: Corners,
 }
 
-// A quad whose eight numbers are equal.
-pub fn quad_of(x: f32) -> Quad {
-    let p = Point { x, y: x };
-    Quad {
-        q0: p,
-        q1: p,
-        q2: p,
-        q3: p,
-    }
-}
-
-pub fn found(id: usize, turn: u8, differing: u8, corners: Quad) -> Answer {
-    Answer {
-        refusal: 0,
-        id: id as u64,
-        turn: turn as u64,
-        differing: differing as u64,
-        corners,
-    }
-}
-
-pub fn refused(number: u8) -> Answer {
-    Answer {
-        refusal: number as u64,
-        id: 0,
-        turn: 0,
-        differing: 0,
-        corners: quad_of(0.0),
-    }
-}
-
-pub fn answer_of(reading: Reading) -> Answer {
-    match reading {
-        Reading::Tag {
-            id,
-            turn,
-            differing,
+impl Answer {
+    /// A tag.
+    pub fn found(id: usize, turn: u8, differing: u8, corners: Corners) -> Self
+        ensures tag { result.refusal ≡ 0 }
+        ensures code { result.id ≡ id }
+        ensures start { (result.turn ≡ turn) × (result.differing ≡ differing) }
+    {
+        Answer {
+            refusal: 0,
+            id: id as u64,
+            turn: u64::from(turn),
+            differing: u64::from(differing),
             corners,
-        } => found(id, turn, differing, corners),
-        Reading::Refused(number) => refused(number),
+        }
+    }
+
+    /// A refusal by its number.
+    pub fn refused(number: u8) -> Self
+        ensures { (result.refusal ≡ number) × (result.id ≡ 0) }
+    {
+        Answer {
+            refusal: u64::from(number),
+            id: 0,
+            turn: 0,
+            differing: 0,
+            corners: Corners::all(0.0),
+        }
+    }
+
+    /// An answer in 37 bytes. Bytes that there are not are 0.
+    pub fn at(s: &[u8]) -> Self {
+        Answer {
+            refusal: u64::from(u8_at(s, 0)),
+            id: u64::from(u16_at(s, 1)),
+            turn: u64::from(u8_at(s, 3)),
+            differing: u64::from(u8_at(s, 4)),
+            corners: Corners::at(rest(s, 5)),
+        }
+    }
+
+    /// Row q of a list; an answer that no reader gives where there is none.
+    pub fn of_row(rows: &[u64], corners: &[f32], q: usize) -> Self {
+        let (rows, _) = rows.as_chunks::<ROW_SIZE>();
+        let (quads, _) = corners.as_chunks::<QUAD_SIZE>();
+        match (rows.get(q), quads.get(q)) {
+            (Some([refusal, id, turn, differing]), Some(numbers)) => Answer {
+                refusal: *refusal,
+                id: *id,
+                turn: *turn,
+                differing: *differing,
+                corners: Corners::from(*numbers),
+            },
+            _ => Answer::refused(255),
+        }
     }
 }
 
-// Row q of a list; an answer that no reader gives where there is none.
-pub fn row_at(rows: &[u64], corners: &[f32], q: usize) -> Answer {
-    if rows.len() / ROW_SIZE <= q {
-        return refused(255);
+impl From<Reading> for Answer {
+    fn from(reading: Reading) -> Self {
+        match reading {
+            Reading::Tag {
+                id,
+                turn,
+                differing,
+                corners,
+            } => Answer::found(id, turn, differing, Corners::from(corners)),
+            Reading::Refused(number) => Answer::refused(number),
+        }
     }
-    if corners.len() / QUAD_SIZE <= q {
-        return refused(255);
-    }
-    let at = ROW_SIZE * q;
-    Answer {
-        refusal: rows[at],
-        id: rows[at + 1],
-        turn: rows[at + 2],
-        differing: rows[at + 3],
-        corners: points::quad_at(corners, q),
-    }
-}
-
-// A quad of eight floats.
-pub fn quad_at(s: &[u8]) -> Quad {
-    let mut numbers = [0.0f32; 8];
-    floats::fill(floats::EACH, 0, s, &mut numbers);
-    points::quad_at(&numbers, 0)
-}
-
-// An answer of 37 bytes. Bytes that there are not are 0.
-pub fn answer_at(s: &[u8]) -> Answer {
-    Answer {
-        refusal: u8_at(s, 0) as u64,
-        id: u16_at(s, 1) as u64,
-        turn: u8_at(s, 3) as u64,
-        differing: u8_at(s, 4) as u64,
-        corners: quad_at(rest(s, 5)),
-    }
-}
-
-fn same_point(a: Point, b: Point) -> bool {
-    (pattern_of(a.x) == pattern_of(b.x)) & (pattern_of(a.y) == pattern_of(b.y))
-}
-
-// Bit for bit, as `same` below.
-pub fn same_quad(a: Quad, b: Quad) -> bool {
-    same_point(a.q0, b.q0)
-        & same_point(a.q1, b.q1)
-        & same_point(a.q2, b.q2)
-        & same_point(a.q3, b.q3)
-}
-
-pub fn same(a: Answer, b: Answer) -> bool {
-    (a.refusal == b.refusal)
-        & (a.id == b.id)
-        & (a.turn == b.turn)
-        & (a.differing == b.differing)
-        & same_quad(a.corners, b.corners)
 }

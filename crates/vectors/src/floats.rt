@@ -1,109 +1,91 @@
-// Floats by their bit patterns: lists that a frame gives, and lists held against a frame.
-use crate::{digest_u32, next_number, u32_at};
+//! Floats by their bit patterns: lists that a frame gives, and lists held against a frame.
+use crate::digest::Digest;
+use crate::{next_number, u32_at};
+use std::num::{f32_from_bits_with_nan, f32_to_bits_with_nan, nearest_u32_to_f32};
 
-// The float of a pattern. A NaN's pattern gives a NaN.
+/// The float of a pattern. A NaN's pattern gives a NaN.
 pub fn float_of(pattern: u32) -> f32 {
-    if 0x7f80_0000 < pattern % 0x8000_0000 {
-        return 0.0 / 0.0;
-    }
-    f32::from_bits(pattern)
+    f32_from_bits_with_nan(pattern)
 }
 
-// The pattern of a float, the same for every NaN.
+/// The pattern of a float, the same for every NaN.
 pub fn pattern_of(x: f32) -> u32 {
-    if x != x {
-        return 0x7fc0_0000;
-    }
-    f32::to_bits(x)
+    f32_to_bits_with_nan(x)
 }
 
 pub fn f32_at(s: &[u8], at: usize) -> f32 {
     float_of(u32_at(s, at))
 }
 
-// How a list of floats is given: one by one in bytes, 0.0 past the end;
-pub const EACH: u8 = 0;
-
-// by the generator from a seed, each from 0.0 to below 1.0 by the upper 24 bits of a number;
-pub const DRAWN: u8 = 1;
-
-// by four bytes that are passed over, a value, a place and another value, which is at that place alone;
-pub const BUT_ONE: u8 = 2;
-
-// or by the bits of a number, the lowest first: -1.0 for a one and 0.0 for a zero.
-pub const BITS: u8 = 3;
-
-// A sample, and the number that the next one is made from.
-#[derive(Clone, Copy)]
-struct Step {
-    value: f32,
-    next: u64,
+/// How a list of floats is given.
+#[derive(Clone, Copy, Debug)]
+pub enum Samples<'a> {
+    /// One by one in four bytes each, 0.0 past the end.
+    Each(&'a [u8]),
+    /// By the generator from a seed, each from 0.0 to below 1.0 by the upper 24 bits of a number.
+    Drawn(u64),
+    /// By four bytes that are passed over, a value, a place and another value, which is at that place alone.
+    ButOne(&'a [u8]),
+    /// By the bits of a number, the lowest first: -1.0 for a one and 0.0 for a zero.
+    Bits(u64),
 }
 
-fn sample(rule: u8, x: u64, s: &[u8], i: usize) -> Step {
-    let next = next_number(x);
-    match rule {
-        EACH => Step {
-            value: f32_at(s, i << 2),
-            next,
-        },
-        DRAWN => Step {
-            value: std::num::nearest_u32_to_f32((next >> 40) as u32) / 16777216.0,
-            next,
-        },
-        BUT_ONE => Step {
-            value: value_at(s, i),
-            next,
-        },
-        _ => Step {
-            value: bit_value(x % 2),
-            next: x / 2,
-        },
+impl Samples<'_> {
+    /// Fills a list.
+    pub fn fill(self, out: &mut [f32]) {
+        match self {
+            Samples::Each(s) => fill_each(s, out),
+            Samples::Drawn(seed) => fill_drawn(seed, out),
+            Samples::ButOne(s) => fill_but_one(s, out),
+            Samples::Bits(bits) => fill_bits(bits, out),
+        }
     }
 }
 
-fn value_at(s: &[u8], i: usize) -> f32 {
-    if i == u32_at(s, 8) as usize {
-        return f32_at(s, 12);
-    }
-    f32_at(s, 4)
-}
-
-fn bit_value(bit: u64) -> f32 {
-    if bit == 1 {
-        return -1.0;
-    }
-    0.0
-}
-
-// Fills a list by a rule, with the seed or the bits `x`, and what the bytes `s` say.
-pub fn fill(rule: u8, x: u64, s: &[u8], out: &mut [f32]) {
-    let mut last = x;
-    let mut i = 0;
-    while i < out.len() {
-        let new = sample(rule, last, s, i);
-        out[i] = new.value;
-        last = new.next;
-        i += 1;
+fn fill_each(s: &[u8], out: &mut [f32]) {
+    out.fill(0.0);
+    for (x, pattern) in out.iter_mut().zip(s.chunks(4)) {
+        *x = f32_at(pattern, 0);
     }
 }
 
-// Whether a list is, bit for bit, as long a list of floats as the four bytes each in `s`; and the digest with its patterns.
-#[derive(Clone, Copy)]
-pub struct Compared {
-    pub alike: bool,
-    pub digest: u64,
+fn fill_drawn(seed: u64, out: &mut [f32]) {
+    let mut number = seed;
+    for x in out {
+        number = next_number(number);
+        *x = nearest_u32_to_f32((number >> 40) as u32) / 16777216.0;
+    }
 }
 
-pub fn compare(s: &[u8], xs: &[f32], digest: u64) -> Compared {
-    let mut alike = s.len() / 4 == xs.len();
-    let mut sum = digest;
-    let mut i = 0;
-    while i < xs.len() {
-        let pattern = pattern_of(xs[i]);
-        alike = alike & (pattern == u32_at(s, i << 2));
-        sum = digest_u32(sum, pattern as u64);
-        i += 1;
+fn fill_but_one(s: &[u8], out: &mut [f32]) {
+    out.fill(f32_at(s, 4));
+    if let Some(x) = out.get_mut(u32_at(s, 8) as usize) {
+        *x = f32_at(s, 12);
     }
-    Compared { alike, digest: sum }
+}
+
+fn fill_bits(bits: u64, out: &mut [f32]) {
+    let mut left = bits;
+    for x in out {
+        *x = if left % 2 == 1 { -1.0 } else { 0.0 };
+        left /= 2;
+    }
+}
+
+/// Whether a list is, bit for bit, as long a list of floats as the four bytes each in `s`.
+pub fn are_alike(s: &[u8], xs: &[f32]) -> bool {
+    s.len() / 4 == xs.len()
+        && xs
+            .iter()
+            .zip(s.chunks(4))
+            .all(|(x, pattern)| pattern_of(*x) == u32_at(pattern, 0))
+}
+
+impl Digest {
+    /// With the patterns of floats, four bytes each.
+    pub fn add_floats(&mut self, xs: &[f32]) {
+        for x in xs {
+            self.add(&pattern_of(*x).to_le_bytes());
+        }
+    }
 }

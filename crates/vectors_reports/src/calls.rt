@@ -1,21 +1,25 @@
-// Calls of both entries, and what is seen of them: the answer and every number of the outputs.
+//! Calls of both entries, and what is seen of them: the answer and every number of the outputs.
 ghost use Rattle.std.specs.Prelude.{◌≡◌, length};
 
-use muosleap_report::reports::{Reread, Written, read_report, write_report};
+use listing::ROW_SIZE;
+use muosleap_report::reports::{read_report, write_report};
+use points::QUAD_SIZE;
+use refusals::Refusal;
+use vectors::digest::Digest;
 use vectors::floats::pattern_of;
-use vectors::{digest_u8, digest_u32, digest_u64, first, product, u8_at, u16_at, u64_at};
+use vectors::{first, product, u8_at, u16_at, u64_at};
 
-// What the outputs hold before a call.
+/// What the outputs hold before a call.
 pub const BYTE: u8 = 165;
 
 pub const NUMBER: u64 = 0xa5a5_a5a5_a5a5_a5a5;
 
 pub const FLOAT: f32 = 165.0;
 
-// The pattern of that.
+/// The pattern of that.
 const PATTERN: u32 = 0x4325_0000;
 
-// Room for every report, and for the rows and the corners of 1,026 rows.
+/// Room for every report, and for the rows and the corners of 1,026 rows.
 pub fn bytes_before() -> [u8; 65536]
     ensures { 65536 ≡ length result }
 {
@@ -34,9 +38,9 @@ pub fn corners_before() -> [f32; 8208]
     [FLOAT; 8208]
 }
 
-// The refusal number, 0 where there is none; how many bytes were written or rows read, and their digest, both 0 where the call is
-// refused; and whether all else in the outputs is as before.
-#[derive(Clone, Copy)]
+/// The refusal number, 0 where there is none; how many bytes were written or rows read, and their digest, both 0 where the call is
+/// refused; and whether all else in the outputs is as before.
+#[derive(Clone, Copy, Debug, PartialEq, Eq)]
 pub struct Outcome {
     pub refusal: u8,
     pub count: usize,
@@ -45,159 +49,121 @@ pub struct Outcome {
 }
 
 impl Outcome {
-    // With a number of an output: one that was given makes the digest this one, and any other is to be as before.
-    fn with(self, given: bool, digest: u64, untouched: bool) -> Self {
+    /// What a frame says of a call: behind its kind the refusal, the count and the digest.
+    pub fn at(frame: &[u8]) -> Self {
         Outcome {
-            refusal: self.refusal,
-            count: self.count,
-            digest: if given { digest } else { self.digest },
-            kept: self.kept & (given | untouched),
+            refusal: u8_at(frame, 1),
+            count: u16_at(frame, 2) as usize,
+            digest: u64_at(frame, 4),
+            kept: true,
         }
     }
 
-    // An accepted call is also to be taken back.
+    /// What a call answered, and what was seen of its outputs.
+    fn new(answer: Result<usize, Refusal>, seen: Seen) -> Self {
+        let (refusal, count, digest) = match answer {
+            Ok(count) => (0, count, seen.digest.value()),
+            Err(refusal) => (refusal.number(), 0, 0),
+        };
+        Outcome {
+            refusal,
+            count,
+            digest,
+            kept: seen.kept,
+        }
+    }
+
+    /// An accepted call is also to be taken back.
     fn taken_back(self, back: bool) -> Self {
         Outcome {
-            refusal: self.refusal,
-            count: self.count,
-            digest: self.digest,
             kept: self.kept & (back | (self.refusal != 0)),
+            ..self
         }
     }
 }
 
-// An answer alone.
-pub fn accepted(count: usize) -> Outcome {
-    Outcome {
-        refusal: 0,
-        count,
-        digest: vectors::DIGEST,
-        kept: true,
-    }
+/// The digest of what was given in the outputs, and whether all else in them is as before.
+#[derive(Clone, Copy, Debug, PartialEq, Eq)]
+struct Seen {
+    digest: Digest,
+    kept: bool,
 }
 
-fn refused(refusal: u8) -> Outcome {
-    Outcome {
-        refusal,
-        count: 0,
-        digest: 0,
-        kept: true,
+impl Seen {
+    fn new() -> Self {
+        Seen {
+            digest: Digest::new(),
+            kept: true,
+        }
     }
-}
 
-fn written(answer: Written) -> Outcome {
-    match answer {
-        Written::Bytes(count) => accepted(count),
-        Written::Refused(refusal) => refused(refusal),
+    /// With a report, of which `count` bytes were given.
+    fn with_report(mut self, count: usize, report: &[u8]) -> Self {
+        let (given, left) = report.split_at(count.min(report.len()));
+        self.digest.add(given);
+        self.kept &= left.iter().all(|byte| *byte == BYTE);
+        self
     }
-}
 
-fn reread(answer: Reread) -> Outcome {
-    match answer {
-        Reread::Rows(count) => accepted(count),
-        Reread::Refused(refusal) => refused(refusal),
+    /// With rows, of which `count` were given.
+    fn with_rows(mut self, count: usize, rows: &[u64]) -> Self {
+        let (given, left) = rows.split_at(product(count, ROW_SIZE, rows.len()));
+        for number in given {
+            self.digest.add(&number.to_le_bytes());
+        }
+        self.kept &= left.iter().all(|number| *number == NUMBER);
+        self
     }
-}
 
-// Looks at a report of which the answer's count of bytes was given.
-fn look_bytes(answer: Outcome, report: &[u8]) -> Outcome {
-    let mut seen = answer;
-    let mut k = 0;
-    while k < report.len() {
-        let byte = u8_at(report, k);
-        seen = seen.with(
-            k < seen.count,
-            digest_u8(seen.digest, byte as u64),
-            byte == BYTE,
-        );
-        k += 1;
+    /// With the corners of rows, of which `count` were given.
+    fn with_corners(mut self, count: usize, corners: &[f32]) -> Self {
+        let (given, left) = corners.split_at(product(count, QUAD_SIZE, corners.len()));
+        self.digest.add_floats(given);
+        self.kept &= left.iter().all(|x| pattern_of(*x) == PATTERN);
+        self
     }
-    seen
-}
-
-// The same of rows, four numbers each.
-fn look_rows(answer: Outcome, rows: &[u64]) -> Outcome {
-    let mut seen = answer;
-    let mut k = 0;
-    while k < rows.len() {
-        let number = rows[k];
-        seen = seen.with(
-            k / 4 < seen.count,
-            digest_u64(seen.digest, number),
-            number == NUMBER,
-        );
-        k += 1;
-    }
-    seen
-}
-
-// And of their corners, eight numbers each.
-fn look_corners(answer: Outcome, corners: &[f32]) -> Outcome {
-    let mut seen = answer;
-    let mut k = 0;
-    while k < corners.len() {
-        let pattern = pattern_of(corners[k]);
-        seen = seen.with(
-            k / 8 < seen.count,
-            digest_u32(seen.digest, pattern as u64),
-            pattern == PATTERN,
-        );
-        k += 1;
-    }
-    seen
 }
 
 fn write(rows: &[u64], corners: &[f32], report: &mut [u8]) -> Outcome {
-    look_bytes(written(write_report(rows, corners, report)), report)
+    let answer = write_report(rows, corners, report);
+    Outcome::new(answer, Seen::new().with_report(answer.unwrap_or(0), report))
 }
 
 fn read(report: &[u8], rows: &mut [u64], corners: &mut [f32]) -> Outcome {
-    look_corners(
-        look_rows(reread(read_report(report, rows, corners)), rows),
-        corners,
-    )
+    let answer = read_report(report, rows, corners);
+    let count = answer.unwrap_or(0);
+    let seen = Seen::new()
+        .with_rows(count, rows)
+        .with_corners(count, corners);
+    Outcome::new(answer, seen)
 }
 
-pub fn same(a: Outcome, b: Outcome) -> bool {
-    (a.refusal == b.refusal) & (a.count == b.count) & (a.digest == b.digest) & (a.kept == b.kept)
-}
-
-// What a frame says of a call: behind its kind the refusal, the count and the digest.
-pub fn expected(frame: &[u8]) -> Outcome {
-    Outcome {
-        refusal: u8_at(frame, 1),
-        count: u16_at(frame, 2) as usize,
-        digest: u64_at(frame, 4),
-        kept: true,
-    }
-}
-
-// Whether a report is read as these rows and corners, bit for bit, with room to spare.
+/// Whether a report is read as these rows and corners, bit for bit, with room to spare.
 fn reads_as(report: &[u8], rows: &[u64], corners: &[f32]) -> bool {
     let mut own_rows = rows_before();
     let mut own_corners = corners_before();
-    let got = read(report, &mut own_rows, &mut own_corners);
-    same(
-        got,
-        look_corners(look_rows(accepted(rows.len() / 4), rows), corners),
-    )
+    let count = rows.len() / ROW_SIZE;
+    let seen = Seen::new()
+        .with_rows(count, rows)
+        .with_corners(count, corners);
+    read(report, &mut own_rows, &mut own_corners) == Outcome::new(Ok(count), seen)
 }
 
-// Writes a reading, and reads it back.
+/// Writes a reading, and reads it back.
 pub fn write_and_back(rows: &[u64], corners: &[f32], report: &mut [u8]) -> Outcome {
     let got = write(rows, corners, report);
     got.taken_back(reads_as(first(report, got.count), rows, corners))
 }
 
-// Whether the first `count` rows and their corners are written as this report, into `own`.
+/// Whether the first `count` rows and their corners are written as this report, into `own`.
 fn writes_as(rows: &[u64], corners: &[f32], count: usize, report: &[u8], own: &mut [u8]) -> bool {
-    let a = product(count, 4, rows.len());
-    let b = product(count, 8, corners.len());
-    let got = write(&rows[0..a], &corners[0..b], own);
-    same(got, look_bytes(accepted(report.len()), report))
+    let rows = &rows[..product(count, ROW_SIZE, rows.len())];
+    let corners = &corners[..product(count, QUAD_SIZE, corners.len())];
+    let count = report.len();
+    write(rows, corners, own) == Outcome::new(Ok(count), Seen::new().with_report(count, report))
 }
 
-// Reads a report, and writes it back.
+/// Reads a report, and writes it back.
 pub fn read_and_back(
     report: &[u8],
     rows: &mut [u64],

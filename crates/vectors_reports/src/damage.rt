@@ -1,17 +1,18 @@
-// Frames of a small report that is damaged at each place with each byte, and read each time.
+//! Frames of a small report that is damaged at each place with each byte, and read each time.
 use crate::calls;
 use crate::calls::Outcome;
-use vectors::{digest_u8, digest_u64, first, least, rest, u8_at};
+use vectors::digest::Digest;
+use vectors::{first, rest, u8_at};
 
-// At the place stands the byte, instead of as many bytes of the report as are skipped: none, one, two, or all.
-#[derive(Clone, Copy)]
+/// At the place stands the byte, instead of as many bytes of the report as are skipped: none, one, two, or all.
+#[derive(Clone, Copy, Debug, PartialEq, Eq)]
 struct Damage {
     place: usize,
     byte: u8,
     skipped: usize,
 }
 
-// Byte k afterwards.
+/// Byte k afterwards.
 fn byte_after(damage: Damage, report: &[u8], k: usize) -> u8 {
     if k < damage.place {
         return u8_at(report, k);
@@ -22,13 +23,11 @@ fn byte_after(damage: Damage, report: &[u8], k: usize) -> u8 {
     u8_at(rest(report, damage.skipped), k - 1)
 }
 
-// The report afterwards, at the front.
+/// The report afterwards, at the front.
 fn damaged(damage: Damage, report: &[u8]) -> [u8; 128] {
     let mut copy = [0u8; 128];
-    let mut k = 0;
-    while k < 128 {
-        copy[k] = byte_after(damage, report, k);
-        k += 1;
+    for (k, byte) in copy.iter_mut().enumerate() {
+        *byte = byte_after(damage, report, k);
     }
     copy
 }
@@ -39,41 +38,55 @@ fn read_damaged(damage: Damage, report: &[u8]) -> Outcome {
     let mut corners = [calls::FLOAT; 64];
     let mut own = [calls::BYTE; 128];
     let left = rest(rest(report, damage.place), damage.skipped);
-    let n = least(damage.place, 126) + 1 + least(left.len(), 126);
+    let n = damage.place.min(126) + 1 + left.len().min(126);
     calls::read_and_back(first(&copy, n), &mut rows, &mut corners, &mut own)
 }
 
-// All outcomes as one: how many were accepted, and the digest of them.
-fn added(sum: Outcome, got: Outcome) -> Outcome {
-    let a = digest_u8(sum.digest, got.refusal as u64);
-    let b = digest_u8(a, got.count as u64);
-    let before = least(sum.count, 65535);
+/// All outcomes as one: how many were accepted, and the digest of them.
+#[derive(Clone, Copy, Debug, PartialEq, Eq)]
+struct Sum {
+    accepted: usize,
+    digest: Digest,
+    kept: bool,
+}
+
+impl Sum {
+    fn add(&mut self, got: Outcome) {
+        let [count, ..] = got.count.to_le_bytes();
+        self.digest.add(&[got.refusal, count]);
+        self.digest.add(&got.digest.to_le_bytes());
+        self.kept &= got.kept;
+        if got.refusal == 0 {
+            self.accepted = self.accepted.saturating_add(1);
+        }
+    }
+}
+
+/// At each place, the end included.
+fn read_all(skipped: usize, report: &[u8]) -> Outcome {
+    let mut sum = Sum {
+        accepted: 0,
+        digest: Digest::new(),
+        kept: true,
+    };
+    for place in 0..=report.len().min(126) {
+        for byte in 0..=255 {
+            let damage = Damage {
+                place,
+                byte,
+                skipped,
+            };
+            sum.add(read_damaged(damage, report));
+        }
+    }
     Outcome {
         refusal: 0,
-        count: if got.refusal == 0 { before + 1 } else { before },
-        digest: digest_u64(b, got.digest),
-        kept: sum.kept & got.kept,
+        count: sum.accepted,
+        digest: sum.digest.value(),
+        kept: sum.kept,
     }
 }
 
-// At each place, the end included.
-fn read_all(skipped: usize, report: &[u8]) -> Outcome {
-    let mut sum = calls::accepted(0);
-    let count = (least(report.len(), 126) + 1) * 256;
-    let mut i: usize = 0;
-    while i < count {
-        let damage = Damage {
-            place: i / 256,
-            byte: (i % 256) as u8,
-            skipped,
-        };
-        sum = added(sum, read_damaged(damage, report));
-        i += 1;
-    }
-    sum
-}
-
-pub fn alike(frame: &[u8]) -> bool {
-    let sum = read_all(u8_at(frame, 12) as usize, rest(frame, 13));
-    calls::same(sum, calls::expected(frame))
+pub fn is_alike(frame: &[u8]) -> bool {
+    read_all(usize::from(u8_at(frame, 12)), rest(frame, 13)) == Outcome::at(frame)
 }

@@ -1,21 +1,27 @@
-// The readings that frames give: number by number, or by a seed and a rule.
+//! The readings that frames give: number by number, or by a seed and a rule.
 ghost use Rattle.std.specs.Prelude.{◌≡◌, length};
 
 use crate::calls;
 use vectors::floats::float_of;
 use vectors::{next_number, u16_at, u32_at, u64_at};
 
-// The kind of frame that has the numbers of the rows in eight bytes each, then the patterns of the corner numbers in four. Any other
-// has a seed.
-pub const EACH: u8 = 1;
+/// How a frame gives a reading.
+#[derive(Clone, Copy, Debug, PartialEq, Eq)]
+pub enum Given {
+    /// The numbers of the rows in eight bytes each, then the patterns of the corner numbers in four.
+    Each,
+    /// A seed for the rule.
+    Seed,
+}
 
+/// The refusals of a reading.
 const REFUSALS: [u64; 7] = [8, 9, 10, 11, 12, 13, 18];
 
 fn drawn(seed: u64, k: usize) -> u64 {
-    next_number(next_number(next_number(std::num::wrapping_add_u64(seed, k as u64))))
+    next_number(next_number(next_number(seed.wrapping_add(k as u64))))
 }
 
-// Field 0, 1, 2 or 3 of row q: about one row in eight is refused, and about every second has no differing modules.
+/// Field 0, 1, 2 or 3 of row q: about one row in eight is refused, and about every second has no differing modules.
 fn field_by_rule(seed: u64, q: usize, field: usize) -> u64 {
     let x = drawn(seed, q);
     if x % 8 == 0 {
@@ -25,14 +31,14 @@ fn field_by_rule(seed: u64, q: usize, field: usize) -> u64 {
         return 0;
     }
     match field {
-        1 => std::num::wrapping_add_u64(q as u64 % 1024 * 389, seed) % 1024,
+        1 => (q as u64 % 1024 * 389).wrapping_add(seed) % 1024,
         2 => x / 8 % 4,
         3 => if x / 32 % 2 == 0 { 0 } else { x / 64 % 64 },
         _ => 0,
     }
 }
 
-// The pattern of corner number k: zero in a refused row, else any that refusal 8 lets through.
+/// The pattern of corner number k: zero in a refused row, else any that refusal 8 lets through.
 fn pattern_by_rule(seed: u64, k: usize) -> u32 {
     if drawn(seed, k / 8) % 8 == 0 {
         return 0;
@@ -41,9 +47,9 @@ fn pattern_by_rule(seed: u64, k: usize) -> u32 {
     ((x >> 32) % 0x4680_0000 + x % 2 * 0x8000_0000) as u32
 }
 
-// Behind a seed stand a place in the rows and the number there, a place in the corners and the pattern there.
-fn number_at(kind: u8, s: &[u8], k: usize) -> u64 {
-    if kind == EACH {
+/// Behind a seed stand a place in the rows and the number there, a place in the corners and the pattern there.
+fn number_at(given: Given, s: &[u8], k: usize) -> u64 {
+    if given == Given::Each {
         return u64_at(s, k << 3);
     }
     if k == u16_at(s, 8) as usize {
@@ -52,8 +58,8 @@ fn number_at(kind: u8, s: &[u8], k: usize) -> u64 {
     field_by_rule(u64_at(s, 0), k / 4, k % 4)
 }
 
-fn pattern_at(kind: u8, s: &[u8], k: usize) -> u32 {
-    if kind == EACH {
+fn pattern_at(given: Given, s: &[u8], k: usize) -> u32 {
+    if given == Given::Each {
         return u32_at(s, k << 2);
     }
     if k == u16_at(s, 18) as usize {
@@ -62,27 +68,23 @@ fn pattern_at(kind: u8, s: &[u8], k: usize) -> u32 {
     pattern_by_rule(u64_at(s, 0), k)
 }
 
-// The rows that the bytes `s` give, at the front, and their corners.
-pub fn rows_of(kind: u8, s: &[u8]) -> [u64; 4104]
+/// The rows that the bytes `s` give, at the front, and their corners.
+pub fn rows_of(given: Given, s: &[u8]) -> [u64; 4104]
     ensures { 4104 ≡ length result }
 {
     let mut rows = calls::rows_before();
-    let mut k = 0;
-    while k < 4104 {
-        rows[k] = number_at(kind, s, k);
-        k += 1;
+    for (k, number) in rows.iter_mut().enumerate() {
+        *number = number_at(given, s, k);
     }
     rows
 }
 
-pub fn corners_of(kind: u8, s: &[u8]) -> [f32; 8208]
+pub fn corners_of(given: Given, s: &[u8]) -> [f32; 8208]
     ensures { 8208 ≡ length result }
 {
     let mut corners = calls::corners_before();
-    let mut k = 0;
-    while k < 8208 {
-        corners[k] = float_of(pattern_at(kind, s, k));
-        k += 1;
+    for (k, x) in corners.iter_mut().enumerate() {
+        *x = float_of(pattern_at(given, s, k));
     }
     corners
 }

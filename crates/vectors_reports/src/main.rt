@@ -1,75 +1,91 @@
-// Replays readings that are written as reports and reports that are read again against the public entries on reports: what each call
-// answers, and every number of its outputs afterwards. What one entry accepts the other takes back to where it came from.
-// tools/oracle/README.md says how the files were made.
+//! Replays readings that are written as reports and reports that are read again against the public entries on reports: what each call
+//! answers, and every number of its outputs afterwards. What one entry accepts the other takes back to where it came from.
+//! tools/oracle/README.md says how the files were made.
 #![tactic(auto)]
 
 mod calls;
 mod damage;
 mod given;
 
-use std::io;
+use calls::Outcome;
+use given::Given;
 use std::rt::Files;
-use vectors::{Tally, least, rest, u8_at, u16_at};
+use std::{fs, io};
+use vectors::frames::{Frames, UnknownKind};
+use vectors::{Tally, rest, u8_at, u16_at};
 
-// A reading to be written, at the lengths that stand behind what is expected, with as long an output as stands there too.
-fn writing_alike(kind: u8, frame: &[u8]) -> bool {
-    let s = rest(frame, 18);
-    let a = least(u16_at(frame, 12) as usize, 4104);
-    let b = least(u16_at(frame, 14) as usize, 8208);
-    let behind = if kind == given::EACH { a << 3 } else { 0 };
-    let rows = given::rows_of(kind, s);
-    let corners = given::corners_of(kind, rest(s, behind));
-    let mut report = calls::bytes_before();
-    let room = u16_at(frame, 16) as usize;
-    let got = calls::write_and_back(&rows[0..a], &corners[0..b], &mut report[0..room]);
-    calls::same(got, calls::expected(frame))
+#[derive(Clone, Copy, Debug, PartialEq, Eq)]
+enum Kind {
+    /// A reading to be written.
+    Writing(Given),
+    /// A report to be read.
+    Reading,
+    /// A small report that is damaged.
+    Damage,
 }
 
-// A report to be read, behind the lengths of the outputs.
-fn reading_alike(frame: &[u8]) -> bool {
+impl TryFrom<u8> for Kind {
+    type Error = UnknownKind;
+
+    fn try_from(number: u8) -> Result<Self, UnknownKind> {
+        match number {
+            1 => Ok(Kind::Writing(Given::Each)),
+            2 => Ok(Kind::Writing(Given::Seed)),
+            3 => Ok(Kind::Reading),
+            4 => Ok(Kind::Damage),
+            _ => Err(UnknownKind(number)),
+        }
+    }
+}
+
+/// A reading to be written, at the lengths that stand behind what is expected, with as long an output as stands there too.
+fn is_writing_alike(given: Given, frame: &[u8]) -> bool {
+    let s = rest(frame, 18);
+    let a = (u16_at(frame, 12) as usize).min(4104);
+    let b = (u16_at(frame, 14) as usize).min(8208);
+    let behind = if given == Given::Each { 8 * a } else { 0 };
+    let rows = given::rows_of(given, s);
+    let corners = given::corners_of(given, rest(s, behind));
+    let mut report = calls::bytes_before();
+    let room = u16_at(frame, 16) as usize;
+    let got = calls::write_and_back(&rows[..a], &corners[..b], &mut report[..room]);
+    got == Outcome::at(frame)
+}
+
+/// A report to be read, behind the lengths of the outputs.
+fn is_reading_alike(frame: &[u8]) -> bool {
     let mut rows = calls::rows_before();
     let mut corners = calls::corners_before();
     let mut own = calls::bytes_before();
-    let a = least(u16_at(frame, 12) as usize, 4104);
-    let b = least(u16_at(frame, 14) as usize, 8208);
-    let got = calls::read_and_back(
-        rest(frame, 16),
-        &mut rows[0..a],
-        &mut corners[0..b],
-        &mut own,
-    );
-    calls::same(got, calls::expected(frame))
+    let a = (u16_at(frame, 12) as usize).min(4104);
+    let b = (u16_at(frame, 14) as usize).min(8208);
+    let got = calls::read_and_back(rest(frame, 16), &mut rows[..a], &mut corners[..b], &mut own);
+    got == Outcome::at(frame)
 }
 
-// Whether the entries answer what a frame says. Its first byte is its kind.
-fn alike(frame: &[u8]) -> bool {
-    let kind = u8_at(frame, 0);
-    if kind == 3 {
-        return reading_alike(frame);
+/// Whether the entries answer what a frame says.
+fn is_alike(frame: &[u8]) -> bool {
+    match Kind::try_from(u8_at(frame, 0)) {
+        Ok(Kind::Writing(given)) => is_writing_alike(given, frame),
+        Ok(Kind::Reading) => is_reading_alike(frame),
+        Ok(Kind::Damage) => damage::is_alike(frame),
+        Err(_) => false,
     }
-    if kind == 4 {
-        return damage::alike(frame);
-    }
-    writing_alike(kind, frame)
 }
 
-fn replay(s: &[u8]) -> Tally {
+/// Counts the frames of a file.
+fn replay(file: &[u8]) -> Tally {
     let mut tally = Tally::new();
-    let mut at = 0;
-    while at < s.len() {
-        tally = tally.count(alike(vectors::frame_at(s, at)), at);
-        at = vectors::after(s, at);
+    for frame in Frames::new(file) {
+        tally.add(is_alike(frame.bytes), frame.at);
     }
     tally
 }
 
-fn replay_file<R: Files + Print>(rt: &R, name: &[u8]) -> io::Result<()> {
-    let mut buffer = vectors::large_buffer();
-    let n = vectors::load(rt, name, &mut buffer)?;
-    vectors::report(rt, name, replay(&buffer[..n]))
-}
-
 fn main(rt: HostRuntime) -> io::Result<()> {
-    replay_file(&rt, b"writing")?;
-    replay_file(&rt, b"reading")
+    for name in ["writing", "reading"] {
+        let file = fs::read(&rt, name)?;
+        println!(rt; "{name} {}", replay(file.as_slice()))?;
+    }
+    Ok(())
 }

@@ -1,7 +1,7 @@
-// Replays what the original's turn, search, levels, corner test and quad reader answered, its families, lists of quads, paintings of
-// tags and sheets, the limits of documents 01 and 02, searches with their count of codes compared, and pictures of painted tags under
-// uneven light, against the public entries on tags and, for the latter, `lit_reading`; what has a picture again with filler between its lines. tools/oracle/README.md says
-// how the files were made.
+//! Replays what the original's turn, search, levels, corner test and quad reader answered, its families, lists of quads, paintings of
+//! tags and sheets, the limits of documents 01 and 02, searches with their count of codes compared, and pictures of painted tags under
+//! uneven light, against the public entries on tags and, for the latter, `lit_reading`; what has a picture again with filler between
+//! its lines. tools/oracle/README.md says how the files were made.
 #![tactic(auto)]
 
 mod bit_codes;
@@ -12,119 +12,99 @@ mod quads;
 mod sheets;
 mod words;
 
-use std::io;
+use padded::Layout;
 use std::rt::Files;
+use std::{fs, io};
+use vectors::frames::Frames;
 use vectors::{Tally, u8_at};
 
-// Files of frames on words, levels, quads and paintings.
-const WORDS: u8 = 0;
-
-const LEVELS: u8 = 1;
-
-const QUADS: u8 = 2;
-
-const PAINTER: u8 = 3;
-
-// Whether the entry answers what a frame says. The frame's first byte is its kind. The layout is that of pictures.
-fn alike(flow: u8, frame: &[u8], lent: &[u8], layout: u8) -> bool {
-    let kind = u8_at(frame, 0);
-    match flow {
-        WORDS => words::alike(kind, frame, lent),
-        LEVELS => bit_codes::alike(kind, frame),
-        QUADS => quads::alike(kind, frame, lent, layout),
-        _ => paintings::alike(kind, frame, layout),
-    }
+/// What the frames of a file are about.
+#[derive(Clone, Copy, Debug, PartialEq, Eq)]
+enum Flow {
+    Words,
+    Levels,
+    Quads,
+    Painter,
 }
 
-// A frame of kind 0 lends a table or a picture to those after it.
-fn replay(flow: u8, s: &[u8], layout: u8) -> Tally {
-    let mut tally = Tally::new();
-    let mut lent = s.len();
-    let mut at = 0;
-    while at < s.len() {
-        let frame = vectors::frame_at(s, at);
-        if u8_at(frame, 0) == 0 {
-            lent = at;
-        } else {
-            tally = tally.count(alike(flow, frame, vectors::frame_at(s, lent), layout), at);
+impl Flow {
+    /// Whether the entry answers what a frame says. The layout is that of pictures.
+    fn is_alike(self, frame: &[u8], lent: &[u8], layout: Layout) -> bool {
+        match self {
+            Flow::Words => words::is_alike(frame, lent),
+            Flow::Levels => bit_codes::is_alike(frame),
+            Flow::Quads => quads::is_alike(frame, lent, layout),
+            Flow::Painter => paintings::is_alike(frame, layout),
         }
-        at = vectors::after(s, at);
     }
-    tally
+
+    /// Counts the frames of a file. The first byte of a frame is its kind; one of kind 0 lends a table or a picture to those after it.
+    fn replay(self, file: &[u8], layout: Layout) -> Tally {
+        let mut tally = Tally::new();
+        let mut lent: &[u8] = &[];
+        for frame in Frames::new(file) {
+            if u8_at(frame.bytes, 0) == 0 {
+                lent = frame.bytes;
+            } else {
+                tally.add(self.is_alike(frame.bytes, lent, layout), frame.at);
+            }
+        }
+        tally
+    }
 }
 
-fn replay_at<R: Files + Print>(rt: &R, layout: u8, flow: u8, name: &[u8]) -> io::Result<()> {
-    let mut buffer = vectors::large_buffer();
-    let n = vectors::load(rt, name, &mut buffer)?;
-    vectors::report(rt, name, replay(flow, &buffer[..n], layout))
-}
+/// The files, in the order in which they are replayed.
+const FILES: [(Flow, &str); 19] = [
+    (Flow::Words, "rotate_bits"),
+    (Flow::Words, "t16h5"),
+    (Flow::Words, "t25h7"),
+    (Flow::Words, "t25h9"),
+    (Flow::Words, "t36h11"),
+    (Flow::Words, "t36h11b1"),
+    (Flow::Words, "lent"),
+    (Flow::Words, "limits"),
+    (Flow::Words, "likeness"),
+    (Flow::Words, "compared"),
+    (Flow::Levels, "bit_code"),
+    (Flow::Quads, "corners"),
+    (Flow::Quads, "readings"),
+    (Flow::Quads, "lists"),
+    (Flow::Quads, "refusals"),
+    (Flow::Quads, "light"),
+    (Flow::Painter, "paintings"),
+    (Flow::Painter, "prints"),
+    (Flow::Painter, "sheets"),
+];
 
-fn replay_file<R: Files + Print>(rt: &R, flow: u8, name: &[u8]) -> io::Result<()> {
-    replay_at(rt, padded::PACKED, flow, name)
-}
+/// Those that have pictures, which are replayed with filler too.
+const PICTURES: [(Flow, &str); 6] = [
+    (Flow::Quads, "readings"),
+    (Flow::Quads, "lists"),
+    (Flow::Quads, "light"),
+    (Flow::Painter, "paintings"),
+    (Flow::Painter, "prints"),
+    (Flow::Painter, "sheets"),
+];
 
-fn replay_words<R: Files + Print>(rt: &R) -> io::Result<()> {
-    replay_file(rt, WORDS, b"rotate_bits")?;
-    replay_families(rt)?;
-    replay_file(rt, WORDS, b"lent")?;
-    replay_file(rt, WORDS, b"limits")?;
-    replay_file(rt, WORDS, b"likeness")?;
-    replay_file(rt, WORDS, b"compared")
-}
-
-fn replay_families<R: Files + Print>(rt: &R) -> io::Result<()> {
-    replay_file(rt, WORDS, b"t16h5")?;
-    replay_file(rt, WORDS, b"t25h7")?;
-    replay_file(rt, WORDS, b"t25h9")?;
-    replay_file(rt, WORDS, b"t36h11")?;
-    replay_file(rt, WORDS, b"t36h11b1")
-}
-
-fn replay_quads<R: Files + Print>(rt: &R) -> io::Result<()> {
-    replay_file(rt, QUADS, b"corners")?;
-    replay_file(rt, QUADS, b"readings")?;
-    replay_file(rt, QUADS, b"lists")?;
-    replay_file(rt, QUADS, b"refusals")?;
-    replay_file(rt, QUADS, b"light")
-}
-
-// The files of pictures at a layout with filler, under a heading that gives the pitch. What is not packed, or has no room so, is
-// replayed as it is and counted too.
-fn replay_padded<R: Files + Print>(rt: &R, layout: u8, heading: &[u8]) -> io::Result<()> {
-    rt.write_all(heading)?;
-    replay_at(rt, layout, QUADS, b"readings")?;
-    replay_at(rt, layout, QUADS, b"lists")?;
-    replay_at(rt, layout, QUADS, b"light")?;
-    replay_at(rt, layout, PAINTER, b"paintings")?;
-    replay_at(rt, layout, PAINTER, b"prints")?;
-    replay_at(rt, layout, PAINTER, b"sheets")
+fn replay_files<R: Files + Alloc + Print>(
+    rt: &R,
+    files: &[(Flow, &str)],
+    layout: Layout,
+) -> io::Result<()> {
+    for (flow, name) in files {
+        let file = fs::read(rt, *name)?;
+        let tally = flow.replay(file.as_slice(), layout);
+        println!(rt; "{name} {tally}")?;
+    }
+    Ok(())
 }
 
 fn main(rt: HostRuntime) -> io::Result<()> {
-    replay_words(&rt)?;
-    replay_file(&rt, LEVELS, b"bit_code")?;
-    replay_quads(&rt)?;
-    replay_file(&rt, PAINTER, b"paintings")?;
-    replay_file(&rt, PAINTER, b"prints")?;
-    replay_file(&rt, PAINTER, b"sheets")?;
-    replay_padded(
-        &rt,
-        padded::ZERO,
-        b"packed planes again at pitch width + 1:\n",
-    )?;
-    replay_padded(
-        &rt,
-        padded::FULL,
-        b"packed planes again at pitch width + 13:\n",
-    )?;
-    replay_padded(
-        &rt,
-        padded::NOISE,
-        b"packed planes again at pitch 2 x width:\n",
-    )?;
-    replay_padded(
-        &rt,
-        padded::NEXT_LINE,
-        b"packed planes again at pitch width + 7:\n",
-    )
+    replay_files(&rt, &FILES, Layout::Packed)?;
+    for layout in [Layout::Zero, Layout::Full, Layout::Noise, Layout::NextLine] {
+        // What is not packed, or has no room so, is replayed as it is and counted too.
+        println!(rt; "packed planes again at pitch {layout}:")?;
+        replay_files(&rt, &PICTURES, layout)?;
+    }
+    Ok(())
 }

@@ -1,43 +1,88 @@
-// 8-bit planes with filler: the layouts that vectors are replayed at, a packed picture laid out so, and a painted plane looked at
-// byte by byte.
+//! 8-bit planes with filler: the layouts that vectors are replayed at, a packed picture laid out so, and a painted plane looked at
+//! byte by byte.
 ghost use Rattle.std.specs.Prelude.{◌≤◌};
 
 use refusals::Frame;
-use vectors::{digest_u8, least, next_number, product, u8_at, u64_at};
+use std::fmt;
+use vectors::digest::Digest;
+use vectors::{next_number, u8_at, u64_at};
 
-// How a picture is laid out. Its lines have no filler;
-pub const PACKED: u8 = 0;
+/// How a picture is laid out.
+#[derive(Clone, Copy, Debug, PartialEq, Eq)]
+pub enum Layout {
+    /// Its lines have no filler.
+    Packed,
+    /// A zero stands behind each.
+    Zero,
+    /// Thirteen bytes of 255.
+    Full,
+    /// As many bytes of noise as the line has pixels.
+    Noise,
+    /// Seven bytes that go on with the pixels of the next line, as a reader without a pitch would have it.
+    NextLine,
+}
 
-// a zero behind each;
-pub const ZERO: u8 = 1;
+impl Layout {
+    /// The frame of a picture at the layout.
+    pub fn frame_of(self, width: usize, height: usize) -> Frame {
+        let pixels = width.min(65536);
+        let pitch = match self {
+            Layout::Packed => width,
+            Layout::Zero => pixels + 1,
+            Layout::Full => pixels + 13,
+            Layout::Noise => pixels * 2,
+            Layout::NextLine => pixels + 7,
+        };
+        Frame {
+            width,
+            height,
+            pitch,
+        }
+    }
 
-// thirteen bytes of 255;
-pub const FULL: u8 = 2;
+    /// Byte k of a plane: a pixel of the packed picture, or else filler.
+    fn byte_at(self, pixels: &[u8], frame: Frame, k: usize) -> u8 {
+        let pitch = frame.pitch;
+        if pitch == 0 {
+            return 0;
+        }
+        let column = k % pitch;
+        let place = (k / pitch)
+            .saturating_mul(frame.width)
+            .saturating_add(column);
+        let byte = u8_at(pixels, place);
+        if column < frame.width {
+            return byte;
+        }
+        match self {
+            Layout::Zero => 0,
+            Layout::Full => 255,
+            Layout::Noise => noise_at(k),
+            Layout::Packed | Layout::NextLine => byte,
+        }
+    }
 
-// as many bytes of noise as the line has pixels;
-pub const NOISE: u8 = 3;
-
-// or seven bytes that go on with the pixels of the next line, as a reader without a pitch would have it.
-pub const NEXT_LINE: u8 = 4;
-
-// The frame of a picture at a layout.
-pub fn frame_of(layout: u8, width: usize, height: usize) -> Frame {
-    let pixels = least(width, 65536);
-    let pitch = match layout {
-        PACKED => width,
-        ZERO => pixels + 1,
-        FULL => pixels + 13,
-        NOISE => pixels * 2,
-        _ => pixels + 7,
-    };
-    Frame {
-        width,
-        height,
-        pitch,
+    /// Writes a packed picture into a plane.
+    pub fn lay_out(self, pixels: &[u8], frame: Frame, plane: &mut [u8]) {
+        for (k, byte) in plane.iter_mut().enumerate() {
+            *byte = self.byte_at(pixels, frame, k);
+        }
     }
 }
 
-// A frame in three numbers of eight bytes.
+impl fmt::Display for Layout {
+    fn fmt<W: fmt::Write>(&self, f: &mut fmt::Formatter<W>) -> fmt::Result {
+        f.write_str(match self {
+            Layout::Packed => "width",
+            Layout::Zero => "width + 1",
+            Layout::Full => "width + 13",
+            Layout::Noise => "2 x width",
+            Layout::NextLine => "width + 7",
+        })
+    }
+}
+
+/// A frame in three numbers of eight bytes.
 pub fn frame_at(s: &[u8]) -> Frame {
     Frame {
         width: u64_at(s, 0) as usize,
@@ -46,110 +91,58 @@ pub fn frame_at(s: &[u8]) -> Frame {
     }
 }
 
-// How many bytes a plane has, or 65,536 where it has more.
+/// How many bytes a plane has, or 65,536 where it has more.
 pub fn bytes_of(frame: Frame) -> usize
     ensures { result ≤ 65536 }
 {
-    let height = frame.height;
-    if height == 0 {
+    let Some(lines) = frame.height.checked_sub(1) else {
         return 0;
-    }
-    least(
-        product(frame.pitch, height - 1, 65536) + least(frame.width, 65536),
-        65536,
-    )
+    };
+    frame
+        .pitch
+        .saturating_mul(lines)
+        .saturating_add(frame.width)
+        .min(65536)
 }
 
-// Byte k of noise.
+/// Byte k of noise.
 fn noise_at(k: usize) -> u8 {
     (next_number(next_number(k as u64 ^ 0x9e37_79b9_7f4a_7c15)) >> 56) as u8
 }
 
-// Byte k of a plane: a pixel of the packed picture, or else filler.
-fn byte_at(pixels: &[u8], layout: u8, frame: Frame, k: usize) -> u8 {
-    let pitch = frame.pitch;
-    if pitch == 0 {
-        return 0;
-    }
-    let column = k % pitch;
-    let byte = u8_at(
-        pixels,
-        product(k / pitch, frame.width, 65536) + least(column, 65536),
-    );
-    if column < frame.width {
-        return byte;
-    }
-    match layout {
-        ZERO => 0,
-        FULL => 255,
-        NOISE => noise_at(k),
-        _ => byte,
-    }
-}
-
-// Writes a packed picture into a plane, with the filler of a layout.
-pub fn lay_out(pixels: &[u8], layout: u8, frame: Frame, plane: &mut [u8]) {
-    let mut k = 0;
-    while k < plane.len() {
-        plane[k] = byte_at(pixels, layout, frame, k);
-        k += 1;
-    }
-}
-
-// A plane that is to be painted holds noise: it is laid out as filler alone.
+/// A plane that is to be painted holds noise.
 pub fn fill(plane: &mut [u8]) {
-    let frame = Frame {
-        width: 0,
-        height: 1,
-        pitch: 1,
-    };
-    lay_out(b"", NOISE, frame, plane);
+    for (k, byte) in plane.iter_mut().enumerate() {
+        *byte = noise_at(k);
+    }
 }
 
-// What was seen of a plane after it was painted: the digest of its pixels, line by line, and whether every other byte is as before.
-#[derive(Clone, Copy)]
+/// What was seen of a plane after it was painted: the digest of its pixels, line by line, and whether every other byte is as before.
+#[derive(Clone, Copy, Debug, PartialEq, Eq)]
 pub struct Seen {
     pub digest: u64,
-    pub kept: bool,
+    pub is_kept: bool,
 }
 
 impl Seen {
-    // With byte k of the plane.
-    fn with(self, k: usize, byte: u8, pixel: bool) -> Self {
-        if pixel {
-            return Seen {
-                digest: digest_u8(self.digest, byte as u64),
-                kept: self.kept,
-            };
+    /// After a call that answers this number. A refused call paints no pixel: every byte is as before.
+    pub fn after(refusal: u8, plane: &[u8], frame: Frame) -> Self {
+        let width = if refusal == 0 { frame.width } else { 0 };
+        let mut digest = Digest::new();
+        let mut is_kept = true;
+        for (k, byte) in plane.iter().enumerate() {
+            // A plane without a pitch is not painted.
+            if k.checked_rem(frame.pitch)
+                .is_some_and(|column| column < width)
+            {
+                digest.add_u8(*byte);
+            } else {
+                is_kept &= *byte == noise_at(k);
+            }
         }
         Seen {
-            digest: self.digest,
-            kept: self.kept & (byte == noise_at(k)),
+            digest: digest.value(),
+            is_kept,
         }
     }
-}
-
-// Looks at every byte of a plane of this width and pitch.
-fn look(plane: &[u8], width: usize, pitch: usize) -> Seen {
-    let mut seen = Seen {
-        digest: vectors::DIGEST,
-        kept: true,
-    };
-    if pitch == 0 {
-        return seen;
-    }
-    let mut k = 0;
-    while k < plane.len() {
-        seen = seen.with(k, plane[k], k % pitch < width);
-        k += 1;
-    }
-    seen
-}
-
-// After a call that answers this number. A refused call paints no pixel: every byte is as before.
-pub fn look_after(refusal: u8, plane: &[u8], frame: Frame) -> Seen {
-    if refusal == 0 {
-        return look(plane, frame.width, frame.pitch);
-    }
-    look(plane, 0, 1)
 }

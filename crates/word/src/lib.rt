@@ -41,27 +41,22 @@ fn by_table(bits: u64, table: &[u8]) -> u64
     ensures { result ≡ gathered table.now bits }
 {
     let mut b: u64 = 0;
-    let mut k = 0;
-    while k < table.len() {
-        b = with_bit(b, k as u64, bit_at(bits, table[k] as u64));
-        k += 1;
+    for (k, place) in table.iter().enumerate() {
+        b = with_bit(b, k as u64, bit_at(bits, *place as u64));
     }
     b
 }
 
-// The square turned once by the formula, which is for the edges that have no table: from the highest place down.
+// The square turned once by the formula, which is for the edges that have no table: from the highest place down, so that one shift by
+// a changing number is done for each bit and not two.
 fn by_formula(bits: u64, edge: u8) -> u64
     requires { (edge ≤ 8) × (has_table edge ≡ false) }
     ensures { result ≡ turn edge bits }
 {
     let e = edge as u64;
     let mut b: u64 = 0;
-    let mut i = e;
-    while i > 0 {
-        i -= 1;
-        let mut j = e;
-        while j > 0 {
-            j -= 1;
+    for i in (0..e).rev() {
+        for j in (0..e).rev() {
             b = b * 2 + bit_at(bits, source_place(e, i, j));
         }
     }

@@ -1,21 +1,11 @@
 //! Tables of codes: the built-in families, and tables of the host's own.
 
-/// The codes of all families, from the file that the proved code is compiled from.
+/// The code lists, from the file that the proved code is compiled from.
 #[rustfmt::skip]
 #[allow(missing_docs)]
 mod codes {
     include!("../../../crates/tag_families/src/codes.rt");
 }
-
-/// A part of them. The families' parts are worked out when this is compiled, so that a family's table costs nothing to name.
-const fn part(start: usize, count: usize) -> &'static [u64] {
-    codes::CODES.split_at(start).1.split_at(count).0
-}
-
-const T16H5: &[u64] = part(0, 30);
-const T25H7: &[u64] = part(30, 242);
-const T25H9: &[u64] = part(272, 35);
-const T36H11: &[u64] = part(307, 587);
 
 /// A table of codes with what describes its tags: a table of the host's own, or a family's.
 ///
@@ -68,10 +58,10 @@ impl Family {
     /// Its codes.
     pub const fn codes(self) -> &'static [u64] {
         match self {
-            Family::T16H5 => T16H5,
-            Family::T25H7 => T25H7,
-            Family::T25H9 => T25H9,
-            Family::T36H11 | Family::T36H11B1 => T36H11,
+            Family::T16H5 => &codes::T16H5,
+            Family::T25H7 => &codes::T25H7,
+            Family::T25H9 => &codes::T25H9,
+            Family::T36H11 | Family::T36H11B1 => &codes::T36H11,
         }
     }
 

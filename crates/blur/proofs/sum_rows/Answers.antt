@@ -1,71 +1,51 @@
--- The loop keeps: each sum is that of the first k weights.
-use mathlib.Core.Path.{◌≡◌, sym, ap, ◌∙◌}
-use Prim.Native.Nat.{ℕ, ◌+◌, ◌-◌, ◌*◌, ◌/◌, ◌≤◌, ◌<◌}
-use native.Mathlib.Omega.{arith}
-use lib.ListN.{length, get_or, take, drop}
-use lib.Ieee.{nan}
-use Rattle.lists.proofs.Tab.{length-tabulate}
-use Rattle.blur.specs.Steps.{sums}
-use Rattle.lists.proofs.Rows.{row_fits, row_span, row_length, row_read}
+-- The sums with one more tap each are those of one more weight.
+use Rattle.std.proofs.Common.{◌≡◌, rules, refl, ap, ◌∙◌, List, ℕ, ◌+◌, ◌*◌, ◌<◌, length, get_or, take, drop, arith}
+use lib.Ieee.{Float, nan}
+use Rattle.lists.proofs.Rows.{row_fits, row_length, row_read}
+use Rattle.blur.specs.Blur.{radius}
+use Rattle.blur.specs.Steps.{added, sums}
+use Rattle.samples.proofs.Laws.{zeros}
 use Rattle.blur.proofs.Sums.{sums_none, sums_more}
 use Rattle.blur.proofs.sum_rows.Invariants.{tap}
-use Rattle.blur.proofs.sum_rows.Goals.{After-repeated_place}
 use Rattle.blur.proofs.sum_rows.Goals as goal
 
 pub loop-k-init : goal.loop-k-init
 loop-k-init c =
-    let a = c.args in (
-      omega arith,
-      c.clear.ensures ∙ sums_none a.weights.now (tap a.img.now (length a.row.now) a.height (length a.weights.now / 2) a.y) (length a.row.now),
-    )
-
-fits : (c : After-repeated_place) → c.repeated_place.result * length c.args.row.now + length c.args.row.now ≤ length c.args.img.now
-fits c =
-    let h = c.args.height in
-    let b : c.repeated_place.result < h = rw c.repeated_place.ensures (omega (arith, c.requires.1)) in
-    rw c.requires.2 (row_fits (length c.args.row.now) h c.repeated_place.result b)
-
-pub overflow_mul-start : goal.overflow_mul-start
-overflow_mul-start c = omega (arith, fits c, c.well_formed.1.0.0)
-
-pub overflow_add-end : goal.overflow_add-end
-overflow_add-end c = omega (arith, fits c, c.well_formed.1.0.0)
-
-pub offset_bounds-img-start : goal.offset_bounds-img-start
-offset_bounds-img-start c = omega (arith, fits (goal.at.offset_bounds-img-start c).After-repeated_place, c.well_formed.1.0.1)
-
-pub slice_bounds-add_weighted-end : goal.slice_bounds-add_weighted-end
-slice_bounds-add_weighted-end c = omega (arith, fits (goal.at.slice_bounds-add_weighted-end c).After-repeated_place)
-
-pub add_weighted-requires : goal.add_weighted-requires
-add_weighted-requires c =
-    let w = length c.args.row.now in
-    row_length c.args.img.now w c.repeated_place.result _ (row_span w c.repeated_place.result) (fits (goal.at.add_weighted-requires c).After-repeated_place)
-    ∙ sym (ap length c.loop-k.invariant.1 ∙ length-tabulate w _)
+    let a = c.args in
+    let p = a.img.now in
+    let w = p.shape.width in
+    c.fill.ensures.after (λ y e. search rules)
+    ∙ zeros (length a.row.now) _
+    ∙ sums_none a.weights.now (tap p.samples.now w p.shape.height (radius a.weights.now) a.y) (length a.row.now)
+    ∙ ap (λ (n : ℕ). sums a.weights.now (tap p.samples.now w p.shape.height (radius a.weights.now) a.y) n 0) c.requires.0
 
 pub loop-k-preserved : goal.loop-k-preserved
 loop-k-preserved c =
     let l = c.loop-k in
     let a = c.args in
-    let w = length a.row.now in
+    let p = a.img.now in
+    let w = p.shape.width in
     let i = c.repeated_place.result in
-    let part = take (i * w + w - i * w) (drop (i * w) a.img.now) in (
-      omega arith,
-      sums_more a.weights.now (tap a.img.now w a.height (length a.weights.now / 2) a.y) w l.k l.row c.add_weighted.new.sums (λ x. get_or part x nan)
-          (λ x h.
-          row_read a.img.now w i _ (row_span w i) x nan h
-          ∙ ap (λ (j : ℕ). get_or a.img.now (j * w + x) nan) c.repeated_place.ensures)
-          c.add_weighted.ensures
-          l.invariant.1,
-    )
+    let part = take w (drop (i * w) p.samples.now) in
+    sums_more a.weights.now (tap p.samples.now w p.shape.height (radius a.weights.now) a.y) w l.k l.row c.add_weighted.new.sums (λ x. get_or part x nan)
+    (λ x h. row_read p.samples.now w i w refl x nan h ∙ ap (λ (j : ℕ). get_or p.samples.now (j * w + x) nan) c.repeated_place.ensures)
+    (c.add_weighted.ensures ∙ ap (λ (s : List Float). added l.row (λ x. get_or s x nan) (get_or a.weights.now l.k nan)) c.row.ensures)
+    l.invariant
 
-pub shape_of-row : goal.shape_of-row
-shape_of-row c = ap length c.loop-k.invariant.1 ∙ length-tabulate _ _
+pub add_weighted-requires : goal.add_weighted-requires
+add_weighted-requires c =
+    let p = c.args.img.now in
+    let w = p.shape.width in
+    let i = c.repeated_place.result in
+    let b : i < p.shape.height = omega (arith, c.repeated_place.ensures, c.requires.1) in
+    let fits = row_fits w p.shape.height i b in
+    let a = row_length p.samples.now w i w refl (omega (arith, fits, p.whole)) in
+    omega (arith, ap length c.row.ensures, a, c.requires.0, c.loop-k.auto.row)
 
 pub returns : goal.returns
 returns c =
     let l = c.loop-k in
     let a = c.args in
-    let e : l.k ≡ length a.weights.now = omega (arith, l.invariant.0, c.loop-k-test.false) in
-    l.invariant.1
-    ∙ ap (sums a.weights.now (tap a.img.now (length a.row.now) a.height (length a.weights.now / 2) a.y) (length a.row.now)) e
+    let p = a.img.now in
+    let e : l.k ≡ length a.weights.now = omega arith in
+    l.invariant ∙ ap (sums a.weights.now (tap p.samples.now p.shape.width p.shape.height (radius a.weights.now) a.y) p.shape.width) e

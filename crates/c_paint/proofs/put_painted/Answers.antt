@@ -5,8 +5,8 @@ use Rattle.points.proofs.Numbers.{filled}
 use borrow.Author.Rules.{rules}
 use Rattle.c_paint.proofs.put_painted.Goals as goal
 
-pub returns-in-Tag : goal.returns-in-Tag
-returns-in-Tag c =
+pub returns-in-Ok : goal.returns-in-Ok
+returns-in-Ok c =
     let eight : length c.args.quad.now ≡ 8 = search rules in
-    rw c.in-Tag.is
+    rw c.in-Ok.is
     record { answered = refl; written = c.put_quad.ensures ∙ filled _ c.args.quad.now eight }

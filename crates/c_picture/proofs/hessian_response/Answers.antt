@@ -4,4 +4,4 @@ use Rattle.c_picture.proofs.hessian_response.Goals as goal
 
 pub returns : goal.returns
 returns c =
-    rw (← c.hessian_response-filled.ensures) record { answered = c.plane_number.ensures; out_left = refl }
+    rw (← c.hessian_response.ensures) record { answered = c.plane_number.ensures; out_left = refl }

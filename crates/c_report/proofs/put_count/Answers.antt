@@ -2,8 +2,8 @@
 use mathlib.Core.Path.{refl}
 use Rattle.c_report.proofs.put_count.Goals as goal
 
-pub returns-in-Rows : goal.returns-in-Rows
-returns-in-Rows c = rw c.in-Rows.is record { answered = refl; written = refl }
+pub returns-in-Ok : goal.returns-in-Ok
+returns-in-Ok c = rw c.in-Ok.is record { answered = refl; written = refl }
 
-pub returns-in-Refused : goal.returns-in-Refused
-returns-in-Refused c = rw c.in-Refused.is record { answered = refl; written = refl }
+pub returns-in-Err : goal.returns-in-Err
+returns-in-Err c = rw c.in-Err.is record { answered = c.number.ensures; written = refl }

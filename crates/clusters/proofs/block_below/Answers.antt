@@ -1,10 +1,5 @@
--- The loop keeps: the flag says whether one of the first j samples of the block is below the threshold.
-use borrow.Author.Rules.{rules}
-use mathlib.Core.Path.{◌≡◌, refl}
-use mathlib.Core.Bool.{Bool, ◌||◌}
-use Prim.Native.Nat.{ℕ, ◌+◌}
-use native.Mathlib.Numerals.{add-one}
-use native.Mathlib.Omega.{arith}
+-- One more sample is tested.
+use Rattle.std.proofs.Common.{◌≡◌, refl, Bool, ◌||◌, ℕ, ◌+◌, add-one, arith}
 use Rattle.lists.specs.Each.{any}
 use Rattle.clusters.proofs.block_below.Goals as goal
 
@@ -14,13 +9,12 @@ any_more j found test e = rw (add-one, e)
 
 pub loop-j-init : goal.loop-j-init
 unfolding any
-loop-j-init c = (search rules, refl)
+loop-j-init c = refl
 
 pub loop-j-preserved : goal.loop-j-preserved
-loop-j-preserved c = (search rules, any_more _ _ _ c.loop-j.invariant.1)
+loop-j-preserved c = any_more _ _ _ c.loop-j.invariant
 
 pub returns : goal.returns
 returns c =
-    let l = c.loop-j in
-    let e : l.j ≡ 32 = omega (arith, l.invariant.0, c.loop-j-test.false) in
-    rw e at l.invariant.1
+    let e : c.loop-j.j ≡ 32 = omega arith in
+    rw e at c.loop-j.invariant

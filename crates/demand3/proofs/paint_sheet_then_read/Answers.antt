@@ -1,11 +1,12 @@
 -- The painter's answer, taken apart; then `sheet_then_read`. Assumes nothing.
 use mathlib.Core.Path.{sym, ap, ◌∙◌}
 use native.Mathlib.Omega.{arith}
+use Rattle.std.specs.Prelude.{Result}
+use Rattle.refusals.specs.declared.refusal.Refusal.{Refusal}
 use Rattle.points.specs.Turned.{turned_left}
 use Rattle.grid.proofs.Sheetable.{room}
 use Rattle.muosleap.specs.Quad.{decode_quad}
-use Rattle.muosleap_paint.specs.declared.sheet.Sheet.{Sheet}
-use Rattle.muosleap_paint.specs.PaintSheet.{SheetPainting, paper_sheet}
+use Rattle.muosleap_paint.specs.PaintSheet.{SheetPainting, done}
 use Rattle.muosleap_paint.proofs.PaintSheet.{sheet_accepted}
 use Rattle.demand3.specs.Sheet.{read_sheet}
 use Rattle.demand3.proofs.Sheet.{sheet_then_read}
@@ -15,26 +16,17 @@ use Rattle.demand3.proofs.paint_sheet_then_read.Goals as goal
 pub quad_at-requires : goal.quad_at-requires
 quad_at-requires c =
     let a = c.args in
-    let took = sym (ap (λ (x : SheetPainting). x.answer) c.paint_sheet-sheet.ensures) ∙ ap paper_sheet c.in-Painted.is in
+    let took = sym (ap (λ (x : SheetPainting). x.answer) c.paint_sheet.ensures) ∙ ap done c.in-Ok.is in
     let wide = room (sheet_accepted a.plane.now a.frame a.family a.codes.now a.grid a.print a.quads.now took) in
-    omega (arith, c.requires, wide, c.paint_sheet-sheet.auto)
+    omega (arith, c.requires, wide, c.paint_sheet.auto)
 
-pub returns-in-Refused : goal.returns-in-Refused
-returns-in-Refused c =
+pub returns-in-Ok : goal.returns-in-Ok
+returns-in-Ok c =
     let a = c.args in
-    let left = c.paint_sheet-sheet.new.plane in
-    let written = c.paint_sheet-sheet.new.quads in
+    let left = c.paint_sheet.new.plane in
+    let written = c.paint_sheet.new.quads in
     sheet_then_read a.plane.now a.frame a.family a.codes.now a.grid a.print a.quads.now a.position a.start
-    (paper_sheet c.paint_sheet-sheet.result) left written _ c.requires c.paint_sheet-sheet.ensures
-    (sym (ap (λ (x : Sheet). read_sheet a.frame a.family a.codes.now a.position a.start left written (paper_sheet x)) c.in-Refused.is))
-
-pub returns-in-Painted : goal.returns-in-Painted
-returns-in-Painted c =
-    let a = c.args in
-    let left = c.paint_sheet-sheet.new.plane in
-    let written = c.paint_sheet-sheet.new.quads in
-    sheet_then_read a.plane.now a.frame a.family a.codes.now a.grid a.print a.quads.now a.position a.start
-    (paper_sheet c.paint_sheet-sheet.result) left written _ c.requires c.paint_sheet-sheet.ensures
+    (done c.paint_sheet.result) left written _ c.requires c.paint_sheet.ensures
     (c.try_decode_quad.ensures
     ∙ ap (decode_quad left a.frame a.family a.codes.now) (c.rotate_left-quad.ensures ∙ ap (turned_left a.start) c.quad_at.ensures)
-    ∙ sym (ap (λ (x : Sheet). read_sheet a.frame a.family a.codes.now a.position a.start left written (paper_sheet x)) c.in-Painted.is))
+    ∙ sym (ap (λ (x : Result (Unit {0}) Refusal). read_sheet a.frame a.family a.codes.now a.position a.start left written (done x)) c.in-Ok.is))

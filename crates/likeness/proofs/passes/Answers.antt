@@ -10,10 +10,7 @@ use Rattle.lists.proofs.Each.{each_none, each_more, each_fails}
 use Rattle.likeness.proofs.passes.Goals as goal
 
 pub loop-n-init : goal.loop-n-init
-loop-n-init c = let a = c.args in (omega arith, sym (each_none (passes_at a.edge a.threshold a.codes.now)))
-
-pub code_passes-requires : goal.code_passes-requires
-code_passes-requires c = (c.requires, omega arith)
+loop-n-init c = let a = c.args in each_none (passes_at a.edge a.threshold a.codes.now)
 
 pub returns-then-not-code_passes : goal.returns-then-not-code_passes
 unfolding likeness
@@ -24,12 +21,12 @@ returns-then-not-code_passes c =
 pub loop-n-preserved : goal.loop-n-preserved
 loop-n-preserved c =
     let a = c.args in
-    (omega arith, each_more c.loop-n.n (passes_at a.edge a.threshold a.codes.now) true true (sym (sym c.code_passes.ensures ∙ c.if-not-code_passes.false)) c.loop-n.invariant.1)
+    sym (each_more c.loop-n.n (passes_at a.edge a.threshold a.codes.now) true true (sym (sym c.code_passes.ensures ∙ c.if-not-code_passes.false)) (sym c.loop-n.invariant))
 
 pub returns : goal.returns
 unfolding likeness
 returns c =
     let l = c.loop-n in
     let a = c.args in
-    let e : l.n ≡ length a.codes.now = omega (arith, l.invariant.0) in
-    l.invariant.1 ∙ ap (λ (k : ℕ). each k (passes_at a.edge a.threshold a.codes.now)) e
+    let e : l.n ≡ length a.codes.now = omega arith in
+    sym l.invariant ∙ ap (λ (k : ℕ). each k (passes_at a.edge a.threshold a.codes.now)) e

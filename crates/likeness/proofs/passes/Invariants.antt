@@ -1,14 +1,9 @@
 -- The codes before n pass. Assumes nothing.
 use mathlib.Core.Path.{◌≡◌}
 use mathlib.Core.Bool.{true}
-use Prim.Native.Nat.{◌-◌, ◌≤◌}
-use lib.ListN.{length}
 use Rattle.lists.specs.Each.{each}
 use Rattle.likeness.specs.Likeness.{passes_at}
 use Rattle.likeness.proofs.passes.Given as goal
 
 abbrev pub invariant-loop-n : goal.invariant-loop-n
-invariant-loop-n l = (l.n ≤ length l.codes) × (true ≡ each l.n (passes_at l.edge l.threshold l.codes))
-
-abbrev pub decreases-loop-n : goal.decreases-loop-n
-decreases-loop-n l = length l.codes - l.n
+invariant-loop-n l = each l.n (passes_at l.edge l.threshold l.codes) ≡ true

@@ -1,56 +1,63 @@
 -- The list reader's answer, taken apart; then `list_reported`. Assumes nothing.
-use mathlib.Core.Path.{sym, ap, ◌∙◌}
-use Prim.Native.Nat.{◌*◌, ◌≤◌}
+use mathlib.Core.Path.{◌≡◌, sym, ap, ◌∙◌}
+use Prim.Native.Nat.{ℕ, ◌*◌, ◌≤◌}
 use native.Mathlib.Omega.{arith}
 use lib.ListN.{length}
 use lib.Seq.{length-take-le}
+use Rattle.std.specs.Prelude.{Result, Ok, Err, IsErrAnd}
+use Rattle.refusals.specs.Outcome.{Outcome, refused}
+use Rattle.refusals.specs.Numbers.{number_of, outcome}
+use Rattle.refusals.specs.declared.refusal.Refusal.{Refusal}
 use Rattle.points.specs.Numbers.{quad_size}
 use Rattle.listing.specs.Listing.{row_size, most_quads, Listing, listing_of}
-use Rattle.muosleap.specs.Quads.{paper_listed}
-use Rattle.muosleap.specs.declared.quads.Listed.{Listed}
+use Rattle.muosleap_report.specs.Reports.{writing_of}
 use Rattle.listed_report.proofs.Reported.{write_list, room, list_reported}
-use Rattle.listed_report.proofs.try_decode_quads_reported.Goals.{In-Done}
+use Rattle.listed_report.proofs.try_decode_quads_reported.Goals.{In_ok-n}
 use Rattle.listed_report.proofs.try_decode_quads_reported.Goals as goal
 
 -- it has few, and the outputs, which keep their lengths, have room for them
-roomy : (t : In-Done) → (t.in-Done.n ≤ most_quads) × (row_size * t.in-Done.n ≤ length t.try_decode_quads-listed.new.rows) × (quad_size * t.in-Done.n ≤ length t.try_decode_quads-listed.new.corners)
+roomy : (t : In_ok-n) → (t.in_ok-n.n ≤ most_quads) × (row_size * t.in_ok-n.n ≤ length t.try_decode_quads.new.rows) × (quad_size * t.in_ok-n.n ≤ length t.try_decode_quads.new.corners)
 roomy t =
     let a = t.args in
-    let r = room a.plane.now a.frame a.family a.codes.now a.quads.now a.rows.now a.corners.now t.in-Done.n
-    (sym (ap (λ (x : Listing). x.answer) t.try_decode_quads-listed.ensures) ∙ ap paper_listed t.in-Done.is) in
-    (r.0, omega (arith, r.1, t.try_decode_quads-listed.auto.rows), omega (arith, r.2, t.try_decode_quads-listed.auto.corners))
+    let r = room a.plane.now a.frame a.family a.codes.now a.quads.now a.rows.now a.corners.now t.in_ok-n.n
+    (sym (ap (λ (x : Listing). x.answer) t.try_decode_quads.ensures) ∙ ap outcome t.in_ok-n.was) in
+    (r.0, omega (arith, r.1, t.try_decode_quads.auto.rows), omega (arith, r.2, t.try_decode_quads.auto.corners))
 
-pub slice_bounds-read_rows-end-in-Done : goal.slice_bounds-read_rows-end-in-Done
-slice_bounds-read_rows-end-in-Done c =
-    sym (length-take-le _ c.try_decode_quads-listed.new.rows (omega (arith, (roomy c).1)))
+pub overflow_mul-n : goal.overflow_mul-n
+overflow_mul-n c = omega (arith, (roomy (goal.at.overflow_mul-n c).In_ok-n).0)
 
-pub slice_bounds-read_corners-end-in-Done : goal.slice_bounds-read_corners-end-in-Done
-slice_bounds-read_corners-end-in-Done c =
-    sym (length-take-le _ c.try_decode_quads-listed.new.corners (omega (arith, (roomy c).2)))
+pub overflow_mul-n-2 : goal.overflow_mul-n-2
+overflow_mul-n-2 c = omega (arith, (roomy (goal.at.overflow_mul-n-2 c).In_ok-n).0)
 
-pub returns-in-Refused : goal.returns-in-Refused
-returns-in-Refused c =
+pub slice_bounds-write_report-end : goal.slice_bounds-write_report-end
+slice_bounds-write_report-end c = (roomy (goal.at.slice_bounds-write_report-end c).In_ok-n).1
+
+pub slice_bounds-write_report-end-3 : goal.slice_bounds-write_report-end-3
+slice_bounds-write_report-end-3 c = (roomy (goal.at.slice_bounds-write_report-end-3 c).In_ok-n).2
+
+pub slice_bounds-write_report-end-2 : goal.slice_bounds-write_report-end-2
+slice_bounds-write_report-end-2 c = sym (length-take-le _ c.try_decode_quads.new.rows (roomy (goal.at.slice_bounds-write_report-end-2 c).In_ok-n).1)
+
+pub slice_bounds-write_report-end-4 : goal.slice_bounds-write_report-end-4
+slice_bounds-write_report-end-4 c = sym (length-take-le _ c.try_decode_quads.new.corners (roomy (goal.at.slice_bounds-write_report-end-4 c).In_ok-n).2)
+
+-- what `?` passes on
+refused_by : (r : Result ℕ Refusal) (e : Refusal) → IsErrAnd r (λ x. x ≡ e) → outcome r ≡ refused (number_of e)
+refused_by (Err x) e h = ap (λ (y : Refusal). refused (number_of y)) h
+refused_by (Ok m) e h = absurd h
+
+pub returns-in_err-n : goal.returns-in_err-n
+returns-in_err-n c =
     let a = c.args in
     list_reported a.plane.now a.frame a.family a.codes.now a.quads.now a.rows.now a.corners.now a.report.now
-    (paper_listed c.try_decode_quads-listed.result) c.try_decode_quads-listed.new.rows c.try_decode_quads-listed.new.corners _ _ c.try_decode_quads-listed.ensures
-    (sym (ap (λ (x : Listed). write_list a.report.now (listing_of (paper_listed x) c.try_decode_quads-listed.new.rows c.try_decode_quads-listed.new.corners) (paper_listed x)) c.in-Refused.is))
+    (outcome c.try_decode_quads.result) c.try_decode_quads.new.rows c.try_decode_quads.new.corners _ _ c.try_decode_quads.ensures
+    (ap (λ (o : Outcome ℕ). writing_of o a.report.now) (refused_by c.from_residual.result c.in_err-n.field-0.0 c.from_residual.ensures.1)
+    ∙ sym (ap (λ (x : Result ℕ Refusal). write_list a.report.now (listing_of (outcome x) c.try_decode_quads.new.rows c.try_decode_quads.new.corners) (outcome x)) c.in_err-n.was))
 
-pub returns-in-Done : goal.returns-in-Done
-returns-in-Done c =
+pub returns : goal.returns
+returns c =
     let a = c.args in
     list_reported a.plane.now a.frame a.family a.codes.now a.quads.now a.rows.now a.corners.now a.report.now
-    (paper_listed c.try_decode_quads-listed.result) c.try_decode_quads-listed.new.rows c.try_decode_quads-listed.new.corners _ _ c.try_decode_quads-listed.ensures
+    (outcome c.try_decode_quads.result) c.try_decode_quads.new.rows c.try_decode_quads.new.corners _ _ c.try_decode_quads.ensures
     (c.write_report.ensures
-    ∙ sym (ap (λ (x : Listed). write_list a.report.now (listing_of (paper_listed x) c.try_decode_quads-listed.new.rows c.try_decode_quads-listed.new.corners) (paper_listed x)) c.in-Done.is))
-
-pub overflow_mul-read_rows : goal.overflow_mul-read_rows
-overflow_mul-read_rows c = omega (arith, (roomy c).0)
-
-pub slice_bounds-read_rows-end : goal.slice_bounds-read_rows-end
-slice_bounds-read_rows-end c = (roomy c).1
-
-pub overflow_mul-read_corners : goal.overflow_mul-read_corners
-overflow_mul-read_corners c = omega (arith, (roomy c).0)
-
-pub slice_bounds-read_corners-end : goal.slice_bounds-read_corners-end
-slice_bounds-read_corners-end c = (roomy c).2
+    ∙ sym (ap (λ (x : Result ℕ Refusal). write_list a.report.now (listing_of (outcome x) c.try_decode_quads.new.rows c.try_decode_quads.new.corners) (outcome x)) c.in_ok-n.was))

@@ -1,24 +1,19 @@
--- `clear` is the test of the samples before k. Assumes nothing.
-use mathlib.Core.Path.{◌≡◌, sym, ap, ◌∙◌}
+-- The test of the pairs, by `all_zipped`. Assumes nothing.
+use mathlib.Core.Path.{◌∙◌}
+use mathlib.Core.Bool.{Bool}
 use Prim.Native.Nat.{ℕ}
-use native.Mathlib.Omega.{arith}
-use lib.ListN.{length}
-use Rattle.lists.specs.Each.{each}
-use Rattle.lists.proofs.Each.{each_none, each_more}
-use Rattle.paper.specs.Light.{clears_at}
+use borrow.Author.Rules.{rules}
+use borrow.Author.Tests.{tests}
+use lib.Dec.{eqb}
+use Rattle.std.proofs.lemmas.Iterator.{YieldsList-from_slice, YieldsList-from_zip}
+use Rattle.std.proofs.lemmas.Iterator.Search.{all_from_yields_List}
+use Rattle.paper.specs.Light.{clears}
+use Rattle.lit_reading.proofs.Zipped.{all_zipped}
 use Rattle.lit_reading.proofs.all_clear.Goals as goal
-
-pub loop-k-init : goal.loop-k-init
-loop-k-init c = let a = c.args in (omega arith, sym (each_none (clears_at a.middle a.light a.painted.now a.levels.now)))
-
-pub loop-k-preserved : goal.loop-k-preserved
-loop-k-preserved c =
-    let a = c.args in
-    (omega arith, each_more c.loop-k.k (clears_at a.middle a.light a.painted.now a.levels.now) c.level_clears-clear.result c.loop-k.clear c.level_clears-clear.ensures c.loop-k.invariant.1)
 
 pub returns : goal.returns
 returns c =
-    let l = c.loop-k in
     let a = c.args in
-    let e : l.k ≡ length a.levels.now = omega (arith, l.invariant.0) in
-    l.invariant.1 ∙ ap (λ (k : ℕ). each k (clears_at a.middle a.light a.painted.now a.levels.now)) e
+    let test : ℕ × ℕ → Bool = λ p. clears a.middle (eqb p.0 a.light) p.1 in
+    all_from_yields_List {s = c.zip.result} test c.all.new.self _ _ c.all.ensures.ran (YieldsList-from_zip (YieldsList-from_slice a.painted.now cc) (YieldsList-from_slice a.levels.now cc)) (λ x b q k. search (rules, tests))
+    ∙ all_zipped test a.painted.now a.levels.now c.requires

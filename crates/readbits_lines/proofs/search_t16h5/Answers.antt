@@ -18,5 +18,5 @@ best_tag-requires c =
 pub returns : goal.returns
 unfolding searched
 returns c =
-    c.best_tag.ensures.0
+    c.best_tag.ensures.answer
     ∙ ap₂ (λ (t : Family) (l : List ℕ). sought c.args.bits t.hamming_distance l t.edge) c.family-family.ensures c.codes_of-codes.ensures

@@ -1,6 +1,6 @@
 -- Before row q, looking at the bytes from `at` on finds what looking at all of them finds (`report_placed`). Assumes nothing.
 use mathlib.Core.Path.{◌≡◌, sym, ap, ap₂, ◌∙◌}
-use mathlib.Core.Bool.{true}
+use mathlib.Core.Bool.{Bool, true, false}
 use mathlib.Core.List.{List}
 use Prim.Native.Nat.{ℕ, ◌+◌, ◌≤◌}
 use native.Mathlib.Omega.{arith}
@@ -20,13 +20,16 @@ use Rattle.report_reader.proofs.is_report.Goals.{After-read_row-row, After-row_s
 use Rattle.report_reader.proofs.is_report.Goals as goal
 
 -- looking at the bytes from here on gives the answer
-from_here : (l : At-loop-q) → is_report l.args.report.now ≡ ends_at (length l.args.report.now) (placed l.loop-q.met (left l.args.report.now l.args.count l.loop-q.q l.loop-q.at) l.loop-q.at)
+from_here : (l : At-loop-q) → is_report l.args.report.now ≡ ends_at (length l.args.report.now) (placed l.loop-q.met.ids (left l.args.report.now l.args.count l.loop-q.q l.loop-q.at) l.loop-q.at)
 from_here l =
     report_placed l.args.report.now l.requires.0 (λ k. omega (arith, l.type_inv.report k))
-    ∙ ap (ends_at (length l.args.report.now)) (ap (λ (n : ℕ). placed (replicate 1024 0) (byte_candidates n (drop 2 l.args.report.now)) 2) (sym l.requires.1) ∙ l.loop-q.invariant.2)
+    ∙ ap (ends_at (length l.args.report.now)) (ap (λ (n : ℕ). placed (replicate 1024 false) (byte_candidates n (drop 2 l.args.report.now)) 2) (sym l.requires.1) ∙ l.loop-q.invariant.1)
 
 pub loop-q-init : goal.loop-q-init
-loop-q-init c = (omega arith, omega (arith, c.requires.0), ap (λ (n : ℕ). placed (replicate 1024 0) (byte_candidates n (drop 2 c.args.report.now)) 2) (omega arith))
+loop-q-init c = (
+  omega (arith, c.requires.0),
+  ap₂ (λ (m : List Bool) (n : ℕ). placed m (byte_candidates n (drop 2 c.args.report.now)) 2) (sym c.none-met.ensures) (omega arith),
+)
 
 module _ (d : After-row_stands) where
   stands_is : d.row_stands.result ≡ bytes_stand ((drop d.loop-q.at d.args.report.now))
@@ -35,7 +38,7 @@ module _ (d : After-row_stands) where
 pub returns-then-not-row_stands : goal.returns-then-not-row_stands
 returns-then-not-row_stands c =
     sym (from_here (goal.at.returns-then-not-row_stands c).At-loop-q ∙ ap (ends_at (length c.args.report.now))
-    (fallen c.args.report.now c.args.count c.loop-q.q c.loop-q.at c.loop-q-test.true c.loop-q.met (sym (stands_is (goal.at.returns-then-not-row_stands c).After-row_stands) ∙ c.if-not-row_stands.true)))
+    (fallen c.args.report.now c.args.count c.loop-q.q c.loop-q.at c.loop-q-test.true c.loop-q.met.ids (sym (stands_is (goal.at.returns-then-not-row_stands c).After-row_stands) ∙ c.if-not-row_stands.true)))
 
 pub read_row-row-requires : goal.read_row-row-requires
 read_row-row-requires c = sym c.row_stands.ensures ∙ c.if-not-row_stands.false
@@ -53,18 +56,18 @@ module _ (r : After-read_row-row) where
 
   -- all of it is there
   within : r.loop-q.at + length (row_bytes (row_in ((drop r.loop-q.at r.args.report.now)))) ≤ length r.args.report.now
-  within = omega (arith, stands_long ((drop r.loop-q.at r.args.report.now)) stands, length-drop r.loop-q.at r.args.report.now, r.loop-q.invariant.1)
+  within = omega (arith, stands_long ((drop r.loop-q.at r.args.report.now)) stands, length-drop r.loop-q.at r.args.report.now, r.loop-q.invariant.0)
 
-pub is_met-requires : goal.is_met-requires
-is_met-requires c = good (goal.at.is_met-requires c).After-read_row-row
+pub has-requires : goal.has-requires
+has-requires c = good (goal.at.has-requires c).After-read_row-row
 
-pub returns-then-is_met : goal.returns-then-is_met
-returns-then-is_met c =
-    sym (from_here (goal.at.returns-then-is_met c).At-loop-q ∙ ap (ends_at (length c.args.report.now))
-    (met_before c.args.report.now c.args.count c.loop-q.q c.loop-q.at c.loop-q-test.true c.loop-q.met (ap (is_met c.loop-q.met) (sym (read_is (goal.at.returns-then-is_met c).After-read_row-row)) ∙ sym c.is_met.ensures ∙ c.if-is_met.true)))
+pub returns-then-has : goal.returns-then-has
+returns-then-has c =
+    sym (from_here (goal.at.returns-then-has c).At-loop-q ∙ ap (ends_at (length c.args.report.now))
+    (met_before c.args.report.now c.args.count c.loop-q.q c.loop-q.at c.loop-q-test.true c.loop-q.met.ids (ap (is_met c.loop-q.met.ids) (sym (read_is (goal.at.returns-then-has c).After-read_row-row)) ∙ sym c.has.ensures ∙ c.if-has.true)))
 
-pub meet_id-requires : goal.meet_id-requires
-meet_id-requires c = good (goal.at.meet_id-requires c).After-read_row-row
+pub add-requires : goal.add-requires
+add-requires c = good (goal.at.add-requires c).After-read_row-row
 
 size_is : (c : After-row_size-at) → c.row_size-at.result ≡ length (row_bytes (row_in ((drop c.loop-q.at c.args.report.now))))
 size_is c = c.row_size-at.ensures ∙ ap (λ (o : Outcome Tag). length (row_bytes o)) (read_is (goal.at.After-row_size-at c).After-read_row-row)
@@ -72,23 +75,16 @@ size_is c = c.row_size-at.ensures ∙ ap (λ (o : Outcome Tag). length (row_byte
 pub overflow_add-at : goal.overflow_add-at
 overflow_add-at c = omega (arith, size_is c, within (goal.at.overflow_add-at c).After-read_row-row)
 
-pub overflow_add-q : goal.overflow_add-q
-overflow_add-q c = omega (arith, c.loop-q-test.true, c.requires.2)
-
-pub loop-q-smaller : goal.loop-q-smaller
-loop-q-smaller c = omega (arith, c.loop-q-test.true)
-
 pub loop-q-preserved : goal.loop-q-preserved
 loop-q-preserved c =
     let q = c.loop-q.q in
     let n = c.args.count in (
-      omega (arith, c.loop-q-test.true),
       omega (arith, size_is c, within (goal.at.loop-q-preserved c).After-read_row-row),
-      c.loop-q.invariant.2
-          ∙ goes_on c.args.report.now n q c.loop-q.at c.loop-q-test.true c.loop-q.met (stands (goal.at.loop-q-preserved c).After-read_row-row) (ap (is_met c.loop-q.met) (sym (read_is (goal.at.loop-q-preserved c).After-read_row-row)) ∙ sym c.is_met.ensures ∙ c.if-is_met.false)
-          ∙ sym (ap₂ (λ (m : List ℕ) (k : ℕ). placed m (left c.args.report.now n (q + 1) (c.loop-q.at + k)) (c.loop-q.at + k)) (c.meet_id.ensures ∙ ap (meet c.loop-q.met) (read_is (goal.at.loop-q-preserved c).After-read_row-row)) (size_is c)),
+      c.loop-q.invariant.1
+          ∙ goes_on c.args.report.now n q c.loop-q.at c.loop-q-test.true c.loop-q.met.ids (stands (goal.at.loop-q-preserved c).After-read_row-row) (ap (is_met c.loop-q.met.ids) (sym (read_is (goal.at.loop-q-preserved c).After-read_row-row)) ∙ sym c.has.ensures ∙ c.if-has.false)
+          ∙ sym (ap₂ (λ (m : List Bool) (k : ℕ). placed m (left c.args.report.now n (q + 1) (c.loop-q.at + k)) (c.loop-q.at + k)) (c.add.ensures ∙ ap (meet c.loop-q.met.ids) (read_is (goal.at.loop-q-preserved c).After-read_row-row)) (size_is c)),
     )
 
 pub returns : goal.returns
 returns c =
-    sym (from_here (goal.at.returns c).At-loop-q ∙ ap (ends_at (length c.args.report.now)) (none_left_over c.args.report.now c.args.count c.loop-q.q c.loop-q.at c.loop-q.met c.loop-q-test.false))
+    sym (from_here (goal.at.returns c).At-loop-q ∙ ap (ends_at (length c.args.report.now)) (none_left_over c.args.report.now c.args.count c.loop-q.q c.loop-q.at c.loop-q.met.ids c.loop-q-test.false))

@@ -25,7 +25,6 @@ pub loop-q-init : goal.loop-q-init
 loop-q-init c =
     let report = c.args.report.now in
     let count = c.args.count in (
-      omega arith,
       Behind-first report count c.requires.0 c.requires.1 c.requires.2,
       parts_none row_of row_size row_size_lem (row_at report count) c.args.rows.now,
       parts_none corners_of quad_size corners_size (row_at report count) c.args.corners.now,
@@ -34,7 +33,7 @@ loop-q-init c =
     )
 
 next : (t : In-loop-q) → Next t.args.report.now t.args.count t.loop-q.q t.loop-q.at
-next t = Behind-next t.args.report.now t.args.count t.loop-q.q t.loop-q.at t.loop-q-test.true t.loop-q.invariant.1
+next t = Behind-next t.args.report.now t.args.count t.loop-q.q t.loop-q.at t.loop-q-test.true t.loop-q.invariant.0
 
 pub read_row-row-requires : goal.read_row-row-requires
 read_row-row-requires c = ap bytes_stand (part_from c.args.report.now c.loop-q.at) ∙ (next (goal.at.read_row-row-requires c).In-loop-q).stands
@@ -44,23 +43,17 @@ read_is : (r : After-read_row-row) → paper_reading r.read_row-row.result ≡ r
 read_is r = r.read_row-row.ensures ∙ ap row_in (part_from r.args.report.now r.loop-q.at) ∙ sym (next (goal.at.After-read_row-row r).In-loop-q).row
 
 pub put_row-requires : goal.put_row-requires
-put_row-requires c = omega (arith, c.loop-q-test.true, c.loop-q.invariant.4, c.requires.3)
+put_row-requires c = omega (arith, c.loop-q-test.true, c.loop-q.invariant.3, c.requires.3)
 
 pub put_corners-requires : goal.put_corners-requires
 put_corners-requires c =
-    omega (arith, c.loop-q-test.true, c.loop-q.invariant.5, c.requires.4)
+    omega (arith, c.loop-q-test.true, c.loop-q.invariant.4, c.requires.4)
 
 size_is : (c : After-row_size-at) → c.row_size-at.result ≡ length (row_bytes (row_in ((drop c.loop-q.at c.args.report.now))))
 size_is c = c.row_size-at.ensures ∙ ap (λ (o : Outcome Tag). length (row_bytes o)) (read_is (goal.at.After-row_size-at c).After-read_row-row ∙ (next (goal.at.After-row_size-at c).In-loop-q).row)
 
 pub overflow_add-at : goal.overflow_add-at
 overflow_add-at c = omega (arith, size_is c, (next (goal.at.overflow_add-at c).In-loop-q).more.within)
-
-pub overflow_add-q : goal.overflow_add-q
-overflow_add-q c = omega (arith, c.loop-q-test.true, c.ranges.count)
-
-pub loop-q-smaller : goal.loop-q-smaller
-loop-q-smaller c = omega (arith, c.loop-q-test.true)
 
 -- what is put for row q
 put_is : {A : Type 0} (f : Outcome Tag → List A) (w : ℕ) (c : After-row_size-at) (out out₂ : List A) → out₂ ≡ sets out (w * c.loop-q.q) (f (paper_reading c.read_row-row.result)) → out₂ ≡ sets out (w * c.loop-q.q) (f (row_at c.args.report.now c.args.count c.loop-q.q))
@@ -70,26 +63,25 @@ pub loop-q-preserved : goal.loop-q-preserved
 loop-q-preserved c =
     let n = c.args.count in
     let q = c.loop-q.q in (
-      omega (arith, c.loop-q-test.true),
       subst (λ (x : ℕ). Behind c.args.report.now n (q + 1) (c.loop-q.at + x)) (sym (size_is c)) (next (goal.at.loop-q-preserved c).In-loop-q).more,
       put_is row_of row_size c c.loop-q.rows _ c.put_row.ensures
-          ∙ parts_more row_of row_size row_size_lem (row_at c.args.report.now n) q c.args.rows.now c.loop-q.rows (omega (arith, c.loop-q-test.true, c.requires.3)) c.loop-q.invariant.2,
+          ∙ parts_more row_of row_size row_size_lem (row_at c.args.report.now n) q c.args.rows.now c.loop-q.rows (omega (arith, c.loop-q-test.true, c.requires.3)) c.loop-q.invariant.1,
       put_is corners_of quad_size c c.loop-q.corners _ c.put_corners.ensures
-          ∙ parts_more corners_of quad_size corners_size (row_at c.args.report.now n) q c.args.corners.now c.loop-q.corners (omega (arith, c.loop-q-test.true, c.requires.4)) c.loop-q.invariant.3,
-      c.put_row.auto.rows ∙ c.loop-q.invariant.4,
-      c.put_corners.auto.corners ∙ c.loop-q.invariant.5,
+          ∙ parts_more corners_of quad_size corners_size (row_at c.args.report.now n) q c.args.corners.now c.loop-q.corners (omega (arith, c.loop-q-test.true, c.requires.4)) c.loop-q.invariant.2,
+      c.put_row.auto.rows ∙ c.loop-q.invariant.3,
+      c.put_corners.auto.corners ∙ c.loop-q.invariant.4,
     )
 
 pub shape_of-rows : goal.shape_of-rows
-shape_of-rows c = c.loop-q.invariant.4
+shape_of-rows c = c.loop-q.invariant.3
 
 pub shape_of-corners : goal.shape_of-corners
-shape_of-corners c = c.loop-q.invariant.5
+shape_of-corners c = c.loop-q.invariant.4
 
 pub returns : goal.returns
 returns c =
-    let all = rows_all c.args.report.now c.args.count c.loop-q.q (omega (arith, c.loop-q.invariant.0, c.loop-q-test.false)) ∙ rows_say c.args.report.now c.args.count c.requires.1 in
+    let all = rows_all c.args.report.now c.args.count c.loop-q.q (omega arith) ∙ rows_say c.args.report.now c.args.count c.requires.1 in
     record {
-      rows_are = c.loop-q.invariant.2 ∙ ap (λ (x : List (Outcome Tag)). in_front (flat_map row_of x) c.args.rows.now) all;
-      corners_are = c.loop-q.invariant.3 ∙ ap (λ (x : List (Outcome Tag)). in_front (flat_map corners_of x) c.args.corners.now) all;
+      rows_are = c.loop-q.invariant.1 ∙ ap (λ (x : List (Outcome Tag)). in_front (flat_map row_of x) c.args.rows.now) all;
+      corners_are = c.loop-q.invariant.2 ∙ ap (λ (x : List (Outcome Tag)). in_front (flat_map corners_of x) c.args.corners.now) all;
     }

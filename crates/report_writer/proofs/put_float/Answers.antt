@@ -1,22 +1,12 @@
--- The two low bytes of the bits, then the two above them.
-use Prim.Native.Nat.{◌/◌}
-use native.Mathlib.Omega.{arith}
-use lib.Ieee.{to_bits, binary32}
+-- std's four bytes of the bits are the definition's.
+use Rattle.std.proofs.Common.{◌∙◌}
 use Rattle.places.proofs.Pattern.{not_nan}
-use Rattle.report.specs.Bytes.{low_first}
-use Rattle.text.proofs.Join.{Put-more}
+use Rattle.text.proofs.Join.{as_text}
+use Rattle.report_writer.proofs.Pieces.{le_four}
 use Rattle.report_writer.proofs.put_float.Goals as goal
 
-pub float_to_bits-bits : goal.float_to_bits-bits
-float_to_bits-bits c = not_nan c.args.x c.requires.0
-
-pub put_two-requires : goal.put_two-requires
-unfolding low_first
-put_two-requires c = omega arith
+pub float_to_bits-x : goal.float_to_bits-x
+float_to_bits-x c = not_nan c.args.x c.requires.0
 
 pub returns : goal.returns
-unfolding low_first
-returns c =
-    let a = c.args in
-    let bits = to_bits binary32 a.x in
-    Put-more (low_first 2 bits) a.report.now a.at (omega arith) (low_first 2 (bits / 256 / 256)) c.put_two-low_end.ensures c.put_two.ensures
+returns c = as_text (c.to_le_bytes.ensures ∙ le_four _) c.put.ensures

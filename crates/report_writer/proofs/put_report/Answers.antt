@@ -5,7 +5,7 @@ use mathlib.Core.List.{List, ◌++◌, flat_map}
 use Prim.Native.Nat.{ℕ, ◌+◌, ◌*◌, ◌/◌, ◌≤◌, ◌<◌}
 use native.Mathlib.Omega.{arith}
 use lib.Ieee.{Float}
-use lib.ListN.{length, length-append}
+use lib.ListN.{length, drop, length-append}
 use Rattle.lists.specs.Tab.{all}
 use Rattle.lists.proofs.Bools.{and_left}
 use Rattle.refusals.specs.Outcome.{Outcome}
@@ -14,15 +14,16 @@ use Rattle.reader.specs.Reading.{Tag}
 use Rattle.reader.specs.Answer.{paper_reading}
 use Rattle.listing.specs.Listing.{row_size}
 use Rattle.report.specs.Reading.{good_row, id_of, distinct}
-use Rattle.report.specs.Bytes.{low_first, row_bytes}
+use Rattle.report.specs.Bytes.{low_first, row_bytes, report_of}
 use Rattle.report.specs.Rows.{front_row, front_rows, rows_say}
 use Rattle.report.proofs.Same.{part_from}
 use Rattle.report.specs.Steps.{row_stands, row_candidates}
 use Rattle.report.proofs.Placed.{stands_of}
-use Rattle.text.proofs.Join.{Put-none, Put-more, as_text}
+use Rattle.text.specs.Put.{HasRoom}
+use Rattle.text.proofs.Join.{put_none, put_more, put_front}
 use Rattle.report_writer.proofs.Row.{stands_good}
 use Rattle.report_writer.proofs.Rows.{rows_from, corners_from, stands_at_lem, reading_is, rows_whole, corners_whole}
-use Rattle.report_writer.proofs.Pass.{room, report_long, row_at, stands_at, bytes_to, bytes_more, bytes_within, report_is, Put-front}
+use Rattle.report_writer.proofs.Pass.{room, report_long, row_at, stands_at, bytes_to, bytes_more, bytes_within, report_is}
 use Rattle.report_writer.proofs.put_report.Goals.{After-reading_of-row, Start}
 use Rattle.report_writer.proofs.put_report.Goals as goal
 
@@ -51,12 +52,12 @@ module _ (s : Start) where
       stands_at_lem count q rows corners h
       (and_left (all stands_of (row_candidates count rows corners)) (distinct (flat_map id_of (rows_say rows corners))) (sym (reading_is rows corners rows_are corners_are) ∙ s.requires.0))
 
-pub put_two-at-requires : goal.put_two-at-requires
-put_two-at-requires c = omega (arith, all_room (goal.at.put_two-at-requires c).Start)
+pub put_two-requires : goal.put_two-requires
+put_two-requires c = omega (arith, all_room (goal.at.put_two-requires c).Start)
 
 pub loop-q-init : goal.loop-q-init
 unfolding front_rows flat_map
-loop-q-init c = let p = c.put_two-at in (omega arith, refl, Put-none p.new.report p.result)
+loop-q-init c = put_none _
 
 pub slice_bounds-reading_of-count-in-loop-q : goal.slice_bounds-reading_of-count-in-loop-q
 slice_bounds-reading_of-count-in-loop-q c = omega (arith, corners_are (goal.at.slice_bounds-reading_of-count-in-loop-q c).Start)
@@ -88,42 +89,36 @@ module _ (r : After-reading_of-row) where
       ap (λ (o : Outcome Tag). bytes_to (rows (goal.at.After-reading_of-row r).Start) (corners (goal.at.After-reading_of-row r).Start) r.loop-q.q ++ row_bytes o) read_is ∙ bytes_more (rows (goal.at.After-reading_of-row r).Start) (corners (goal.at.After-reading_of-row r).Start) r.loop-q.q
 
   -- there is room for it
-  fits : r.loop-q.at + length (row_bytes row) ≤ length r.loop-q.report
+  fits : HasRoom r.loop-q.output (length (row_bytes row))
   unfolding low_first
   fits =
-      let p = r.put_two-at in
       let q = r.loop-q.q in
       omega (
         arith,
         all_room (goal.at.After-reading_of-row r).Start,
-        r.loop-q.invariant.1,
-        r.loop-q.invariant.2.place,
-        p.ensures.place,
-        p.auto.report,
+        r.loop-q.invariant,
+        r.put_two.ensures,
         ap length next_is,
         length-append (bytes_to (rows (goal.at.After-reading_of-row r).Start) (corners (goal.at.After-reading_of-row r).Start) q) (row_bytes row),
         bytes_within (rows (goal.at.After-reading_of-row r).Start) (corners (goal.at.After-reading_of-row r).Start) (q + 1) (count (goal.at.After-reading_of-row r).Start) (omega (arith, r.loop-q-test.true)),
       )
 
-pub put_row-at-requires : goal.put_row-at-requires
-put_row-at-requires c = (good (goal.at.put_row-at-requires c).After-reading_of-row, fits (goal.at.put_row-at-requires c).After-reading_of-row)
+pub put_row-requires : goal.put_row-requires
+put_row-requires c = (good (goal.at.put_row-requires c).After-reading_of-row, fits (goal.at.put_row-requires c).After-reading_of-row)
 
 pub loop-q-preserved : goal.loop-q-preserved
 loop-q-preserved c =
-    let first = c.put_two-at in
-    let q = c.loop-q.q in (
-      omega (arith, c.loop-q-test.true),
-      c.put_row-at.auto.report ∙ c.loop-q.invariant.1,
-      as_text (next_is (goal.at.loop-q-preserved c).After-reading_of-row)
-          (Put-more (bytes_to (rows (goal.at.loop-q-preserved c).Start) (corners (goal.at.loop-q-preserved c).Start) q) first.new.report first.result (omega (arith, fits (goal.at.loop-q-preserved c).After-reading_of-row, c.loop-q.invariant.1, c.loop-q.invariant.2.place)) (row_bytes (row (goal.at.loop-q-preserved c).After-reading_of-row)) c.loop-q.invariant.2 c.put_row-at.ensures),
-    )
+    put_more (next_is (goal.at.loop-q-preserved c).After-reading_of-row)
+    (omega (arith, fits (goal.at.loop-q-preserved c).After-reading_of-row, c.loop-q.invariant))
+    c.loop-q.invariant
+    c.put_row.ensures
 
 pub returns : goal.returns
 unfolding low_first
 returns c =
-    let p = c.put_two-at in
-    let n = count (goal.at.returns c).Start in
-    let done : c.loop-q.q ≡ n = omega (arith, c.loop-q.invariant.0, c.loop-q-test.false) in
-    let rest = as_text (ap (bytes_to (rows (goal.at.returns c).Start) (corners (goal.at.returns c).Start)) done) c.loop-q.invariant.2 in
-    let whole = Put-front (as_text (report_is (rows (goal.at.returns c).Start) (corners (goal.at.returns c).Start)) (Put-more (low_first 2 n) c.args.report.now 0 (omega (arith, all_room (goal.at.returns c).Start)) (bytes_to (rows (goal.at.returns c).Start) (corners (goal.at.returns c).Start) n) p.ensures rest)) in
-    (whole.0, whole.1)
+    let s = (goal.at.returns c).Start in
+    let done : c.loop-q.q ≡ count s = omega arith in
+    let all = put_more (ap (λ (n : ℕ). low_first 2 (count s) ++ bytes_to (rows s) (corners s) n) done ∙ report_is (rows s) (corners s)) (omega (arith, all_room s)) c.put_two.ensures c.loop-q.invariant in
+    let printed = put_front refl all in
+    let bytes = printed.bytes ∙ ap (λ (n : ℕ). report_of (rows_say (rows s) (corners s)) ++ drop n c.args.report.now) printed.number in
+    (printed.number, grind (arith, all.same_loan, bytes))

@@ -1,5 +1,5 @@
 -- Before row q, looking at the rows from q on finds what looking at all of them finds (`found`); the bytes so far are 37 a row at the most.
-use mathlib.Core.Path.{◌≡◌, refl, sym, ap, ap₂, ◌∙◌}
+use mathlib.Core.Path.{◌≡◌, sym, ap, ap₂, ◌∙◌}
 use mathlib.Core.Bool.{Bool, true, false, cond}
 use mathlib.Core.List.{List}
 use Prim.Native.Nat.{ℕ, ◌+◌, ◌*◌, ◌/◌}
@@ -19,7 +19,7 @@ use Rattle.report.proofs.Good.{row_most}
 use Rattle.report_writer.proofs.Row.{stands_good}
 use Rattle.report_writer.proofs.Rows.{rows_from, corners_from, rows_whole, corners_whole, no_reading}
 use Rattle.report_writer.proofs.Pass.{room, row_at, stands_at, rest, fallen, met_before, goes_on, none_left, found}
-use Rattle.report_writer.proofs.report_size.Goals.{After-reading_of-row, After-row_stands, At-loop-q, Else-is_met, Start}
+use Rattle.report_writer.proofs.report_size.Goals.{After-reading_of-row, After-row_stands, At-loop-q, Else-has, Start}
 use Rattle.report_writer.proofs.report_size.Goals as goal
 
 -- the answer
@@ -46,11 +46,11 @@ module _ (l : At-loop-q) where
   corners_are = l.if-corners-count.false
 
   -- looking at the rows from q on gives the answer
-  from_here : placed l.loop-q.met (rest l.args.rows.now l.args.corners.now count l.loop-q.q) l.loop-q.size ≡ answer (goal.at.At-loop-q l).Start
-  from_here = sym l.loop-q.invariant.2 ∙ found l.args.rows.now l.args.corners.now rows_are corners_are
+  from_here : placed l.loop-q.met.ids (rest l.args.rows.now l.args.corners.now count l.loop-q.q) l.loop-q.size ≡ answer (goal.at.At-loop-q l).Start
+  from_here = sym l.loop-q.invariant.1 ∙ found l.args.rows.now l.args.corners.now rows_are corners_are
 
 pub loop-q-init : goal.loop-q-init
-loop-q-init c = (omega arith, omega arith, refl)
+loop-q-init c = (omega arith, ap (λ (l : List Bool). placed l (rest c.args.rows.now c.args.corners.now (length c.args.rows.now / 4) 0) 2) (sym c.none-met.ensures))
 
 -- the numbers handed on are those from row q on
 pub row_stands-requires : goal.row_stands-requires
@@ -64,7 +64,7 @@ module _ (d : After-row_stands) where
 
 pub returns-then-not-row_stands : goal.returns-then-not-row_stands
 returns-then-not-row_stands c =
-    sym (fallen c.args.rows.now c.args.corners.now (count (goal.at.returns-then-not-row_stands c).At-loop-q) c.loop-q.q c.loop-q-test.true c.loop-q.met c.loop-q.size (sym (stands_is (goal.at.returns-then-not-row_stands c).After-row_stands) ∙ c.if-not-row_stands.true)) ∙ from_here (goal.at.returns-then-not-row_stands c).At-loop-q
+    sym (fallen c.args.rows.now c.args.corners.now (count (goal.at.returns-then-not-row_stands c).At-loop-q) c.loop-q.q c.loop-q-test.true c.loop-q.met.ids c.loop-q.size (sym (stands_is (goal.at.returns-then-not-row_stands c).After-row_stands) ∙ c.if-not-row_stands.true)) ∙ from_here (goal.at.returns-then-not-row_stands c).At-loop-q
 
 -- row q, which stands
 module _ (r : After-reading_of-row) where
@@ -84,41 +84,34 @@ reading_of-row-requires c =
     let both = room c.args.rows.now c.args.corners.now (count (goal.at.reading_of-row-requires c).At-loop-q) c.loop-q.q (rows_are (goal.at.reading_of-row-requires c).At-loop-q) (corners_are (goal.at.reading_of-row-requires c).At-loop-q) c.loop-q-test.true in
     (both.0, both.1, sym c.row_stands.ensures ∙ c.if-not-row_stands.false)
 
-pub is_met-requires : goal.is_met-requires
-is_met-requires c = good (goal.at.is_met-requires c).After-reading_of-row
+pub has-requires : goal.has-requires
+has-requires c = good (goal.at.has-requires c).After-reading_of-row
 
 -- its id is new
-new_id : (e : Else-is_met) → is_met e.loop-q.met (row_at e.args.rows.now e.args.corners.now e.loop-q.q) ≡ false
+new_id : (e : Else-has) → is_met e.loop-q.met.ids (row_at e.args.rows.now e.args.corners.now e.loop-q.q) ≡ false
 new_id e =
-    ap (is_met e.loop-q.met) (sym (read_is (goal.at.Else-is_met e).After-reading_of-row)) ∙ sym e.is_met.ensures ∙ e.if-is_met.false
+    ap (is_met e.loop-q.met.ids) (sym (read_is (goal.at.Else-has e).After-reading_of-row)) ∙ sym e.has.ensures ∙ e.if-has.false
 
-pub returns-then-is_met : goal.returns-then-is_met
-returns-then-is_met c =
-    sym (met_before c.args.rows.now c.args.corners.now (count (goal.at.returns-then-is_met c).At-loop-q) c.loop-q.q c.loop-q-test.true c.loop-q.met c.loop-q.size (ap (is_met c.loop-q.met) (sym (read_is (goal.at.returns-then-is_met c).After-reading_of-row)) ∙ sym c.is_met.ensures ∙ c.if-is_met.true)) ∙ from_here (goal.at.returns-then-is_met c).At-loop-q
+pub returns-then-has : goal.returns-then-has
+returns-then-has c =
+    sym (met_before c.args.rows.now c.args.corners.now (count (goal.at.returns-then-has c).At-loop-q) c.loop-q.q c.loop-q-test.true c.loop-q.met.ids c.loop-q.size (ap (is_met c.loop-q.met.ids) (sym (read_is (goal.at.returns-then-has c).After-reading_of-row)) ∙ sym c.has.ensures ∙ c.if-has.true)) ∙ from_here (goal.at.returns-then-has c).At-loop-q
 
-pub meet_id-requires : goal.meet_id-requires
-meet_id-requires c = good (goal.at.meet_id-requires c).After-reading_of-row
+pub add-requires : goal.add-requires
+add-requires c = good (goal.at.add-requires c).After-reading_of-row
 
 pub overflow_add-size : goal.overflow_add-size
 overflow_add-size c =
-    omega (arith, c.row_size-size.ensures, row_most ((paper_reading c.reading_of-row.result)), c.loop-q-test.true, c.loop-q.invariant.1, c.requires)
-
-pub overflow_add-q : goal.overflow_add-q
-overflow_add-q c = omega (arith, c.loop-q-test.true, c.requires)
-
-pub loop-q-smaller : goal.loop-q-smaller
-loop-q-smaller c = omega (arith, c.loop-q-test.true)
+    omega (arith, c.row_size-size.ensures, row_most ((paper_reading c.reading_of-row.result)), c.loop-q-test.true, c.loop-q.invariant.0, c.requires)
 
 pub loop-q-preserved : goal.loop-q-preserved
 loop-q-preserved c =
     let q = c.loop-q.q in (
-      omega (arith, c.loop-q-test.true),
-      omega (arith, c.row_size-size.ensures, row_most ((paper_reading c.reading_of-row.result)), c.loop-q.invariant.1),
-      c.loop-q.invariant.2 ∙ goes_on c.args.rows.now c.args.corners.now (count (goal.at.loop-q-preserved c).At-loop-q) q c.loop-q-test.true c.loop-q.met c.loop-q.size (stands (goal.at.loop-q-preserved c).After-reading_of-row) (new_id (goal.at.loop-q-preserved c).Else-is_met)
-          ∙ sym (ap₂ (λ (m : List ℕ) (k : ℕ). placed m (rest c.args.rows.now c.args.corners.now (count (goal.at.loop-q-preserved c).At-loop-q) (q + 1)) (c.loop-q.size + k))
-          (c.meet_id.ensures ∙ ap (meet c.loop-q.met) (read_is (goal.at.loop-q-preserved c).After-reading_of-row)) (c.row_size-size.ensures ∙ ap (λ (o : Outcome Tag). length (row_bytes o)) (read_is (goal.at.loop-q-preserved c).After-reading_of-row))),
+      omega (arith, c.row_size-size.ensures, row_most ((paper_reading c.reading_of-row.result)), c.loop-q.invariant.0),
+      c.loop-q.invariant.1 ∙ goes_on c.args.rows.now c.args.corners.now (count (goal.at.loop-q-preserved c).At-loop-q) q c.loop-q-test.true c.loop-q.met.ids c.loop-q.size (stands (goal.at.loop-q-preserved c).After-reading_of-row) (new_id (goal.at.loop-q-preserved c).Else-has)
+          ∙ sym (ap₂ (λ (m : List Bool) (k : ℕ). placed m (rest c.args.rows.now c.args.corners.now (count (goal.at.loop-q-preserved c).At-loop-q) (q + 1)) (c.loop-q.size + k))
+          (c.add.ensures ∙ ap (meet c.loop-q.met.ids) (read_is (goal.at.loop-q-preserved c).After-reading_of-row)) (c.row_size-size.ensures ∙ ap (λ (o : Outcome Tag). length (row_bytes o)) (read_is (goal.at.loop-q-preserved c).After-reading_of-row))),
     )
 
 pub returns : goal.returns
 returns c =
-    sym (none_left c.args.rows.now c.args.corners.now (count (goal.at.returns c).At-loop-q) c.loop-q.q c.loop-q.met c.loop-q.size c.loop-q-test.false) ∙ from_here (goal.at.returns c).At-loop-q
+    sym (none_left c.args.rows.now c.args.corners.now (count (goal.at.returns c).At-loop-q) c.loop-q.q c.loop-q.met.ids c.loop-q.size c.loop-q-test.false) ∙ from_here (goal.at.returns c).At-loop-q

@@ -1,14 +1,9 @@
 -- Before row q, looking at the rows from q on finds what looking at all of them finds (`found`); the bytes so far are 37 a row at the most.
-use mathlib.Core.Path.{◌≡◌}
-use Prim.Native.Nat.{◌+◌, ◌-◌, ◌*◌, ◌≤◌}
-use lib.ListN.{replicate}
+use Rattle.std.proofs.Common.{◌≡◌, false, ◌+◌, ◌*◌, ◌≤◌, replicate}
 use Rattle.report.specs.Steps.{placed}
 use Rattle.report_writer.proofs.Pass.{rest}
 use Rattle.report_writer.proofs.report_size.Given as goal
 
 abbrev pub invariant-loop-q : goal.invariant-loop-q
 invariant-loop-q l =
-    (l.q ≤ l.count) × (l.size ≤ 2 + 37 * l.q) × (placed (replicate 1024 0) (rest l.rows l.corners l.count 0) 2 ≡ placed l.met (rest l.rows l.corners l.count l.q) l.size)
-
-abbrev pub decreases-loop-q : goal.decreases-loop-q
-decreases-loop-q l = l.count - l.q
+    (l.size ≤ 2 + 37 * l.q) × (placed (replicate 1024 false) (rest l.rows l.corners l.count 0) 2 ≡ placed l.met.ids (rest l.rows l.corners l.count l.q) l.size)

@@ -1,166 +1,89 @@
--- Both loops keep: the first y rows are written.
-use mathlib.Core.Path.{◌≡◌, refl, sym, ap, ◌∙◌}
-use Prim.Native.Nat.{ℕ, ◌+◌, ◌-◌, ◌*◌, ◌≤◌, ◌<◌}
-use native.Mathlib.Nat.{sub-zero, one-mul, mul_comm, mul-le-mul_right}
-use native.Mathlib.Omega.{arith}
-use lib.ListN.{length, take, drop}
+-- The loop keeps: the first y rows are written. It ends when y is the last row, or after a turn that comes up to that row.
+use Rattle.std.proofs.Common.{rules, ◌≡◌, refl, sym, ap, ◌∙◌, subst, List, ℕ, ◌+◌, ◌-◌, ◌*◌, ◌≤◌, ◌<◌, length, take, drop, arith}
+use native.Mathlib.Nat.{le_refl, sub-zero, mul_comm, mul-le-mul_right}
+use lib.Ieee.{Float}
 use lib.Seq.{length-take-le}
+use Rattle.std.proofs.Math.Nat.{min-eq_left, min-eq_right}
 use Rattle.lists.specs.Tab.{tabulate}
-use Rattle.samples.specs.Samples.{zero_f}
-use Rattle.response.specs.Response.{response_at}
-use Rattle.response.proofs.Border.{first_end, last_end, border_row}
+use Rattle.lists.proofs.Grid.{next_row}
 use Rattle.lists.proofs.Part.{part_length, back}
-use Rattle.lists.proofs.Rows.{Filled, rows_first, rows_more, rows_up_to, rows_all, row_fits, row_span, row_length}
-use Rattle.response.proofs.Pairs.{two_rows, pair_fits}
-use Rattle.response.proofs.hessian_response.Goals.{After-clear-then-y-height, At-loop-y-2, In-loop-y, In-loop-y-2}
+use Rattle.lists.proofs.Rows.{Filled, Filled-part, Filled-all, rows_first, row_fits}
+use Rattle.samples.specs.Samples.{zero_f}
+use Rattle.samples.proofs.Laws.{zeros}
+use Rattle.response.specs.Response.{response_at, response}
+use Rattle.response.proofs.Border.{first_end, last_end, border_row}
+use Rattle.response.proofs.Pairs.{rows_between}
+use Rattle.response.proofs.hessian_response.Goals.{Start, Left-loop-y, else-loop-y-test, then-loop-y-test+else-last-y-gt2}
 use Rattle.response.proofs.hessian_response.Goals as goal
 
-in_turn : (c : In-loop-y) → c.loop-y.y + 2 < c.args.height
-in_turn c = omega (arith, c.loop-y-test.true)
-
-fits : (c : In-loop-y) → let a = c.args in c.loop-y.y * a.width + a.width + a.width ≤ length c.loop-y.out
-fits c = rw c.loop-y.invariant.1.whole (pair_fits c.args.width c.args.height c.loop-y.y (omega (arith, in_turn c)))
-
-wide : (c : In-loop-y) → let w = c.args.width in length (take (c.loop-y.y * w + w + w - c.loop-y.y * w) (drop (c.loop-y.y * w) c.loop-y.out)) ≡ w + w
-wide c = let w = c.args.width in part_length c.loop-y.out (c.loop-y.y * w) (c.loop-y.y * w + w + w) (w + w) (fits c) (omega arith)
-
-fits2 : (c : At-loop-y-2) → c.loop-y-2.y < c.args.height → c.loop-y-2.y * c.args.width + c.args.width ≤ length c.loop-y-2.out
-fits2 c b = rw c.loop-y-2.invariant.1.whole (row_fits c.args.width c.args.height c.loop-y-2.y b)
-
-in_turn2 : (c : In-loop-y-2) → c.loop-y-2.y + 1 < c.args.height
-in_turn2 c = omega (arith, c.loop-y-2-test.true)
-
-wide2 : (c : At-loop-y-2) (b : c.loop-y-2.y < c.args.height) → length (take (c.loop-y-2.y * c.args.width + c.args.width - c.loop-y-2.y * c.args.width) (drop (c.loop-y-2.y * c.args.width) c.loop-y-2.out)) ≡ c.args.width
-wide2 c b = row_length c.loop-y-2.out c.args.width c.loop-y-2.y _ (row_span c.args.width c.loop-y-2.y) (fits2 c b)
-
-pub slice_bounds-clear-end : goal.slice_bounds-clear-end
-slice_bounds-clear-end c =
-    omega (arith, row_fits c.args.width c.args.height 0 c.requires.1, c.requires.3)
+whole : (s : Start) → length s.args.out.now ≡ s.args.img.now.shape.width * s.args.img.now.shape.height
+whole s = s.requires.1 ∙ s.args.img.now.whole
 
 pub loop-y-init : goal.loop-y-init
 loop-y-init c =
     let a = c.args in
-    let w = a.width in
-    let n : length (take (w - 0) a.out.now) ≡ w = length-take-le (w - 0) a.out.now (omega (arith, row_fits w a.height 0 c.requires.1, c.requires.3)) ∙ sub-zero w in (
+    let p = a.img.now in
+    let w = p.shape.width in
+    let h = p.shape.height in
+    let some = c.requires.0 in
+    let long = whole (goal.at.loop-y-init c).Start in
+    let n : length (take (w - 0) a.out.now) ≡ w = length-take-le (w - 0) a.out.now (omega (arith, row_fits w h 0 some, long)) ∙ sub-zero w in (
       omega arith,
-      rows_first (response_at a.img.now w a.height) w a.height a.out.now c.clear.new.row c.requires.1
-          (c.clear.ensures ∙ ap (λ (k : ℕ). tabulate k (λ x. zero_f)) n ∙ border_row a.img.now w a.height 0 (first_end a.height 0 refl))
-          c.requires.3,
+      rows_first (response_at p.samples.now w h) w h a.out.now c.fill.new.self some
+          (c.fill.ensures.after (λ y e. search rules) ∙ zeros _ _ ∙ ap (λ (k : ℕ). tabulate k (λ x. zero_f)) n ∙ border_row p.samples.now w h 0 (first_end h 0 refl))
+          long,
     )
-
-pub overflow_add-y : goal.overflow_add-y
-overflow_add-y c =
-    omega (arith, c.loop-y.invariant.1.low, mul-le-mul_right c.loop-y.y c.requires.0, one-mul c.loop-y.y, mul_comm c.args.width c.loop-y.y, c.requires.2, c.well_formed.0.1)
-
-pub overflow_mul-start : goal.overflow_mul-start
-overflow_mul-start c = omega (arith, fits c, c.loop-y.invariant.1.whole, c.requires.2, c.well_formed.0.0)
-
-pub overflow_add-end : goal.overflow_add-end
-overflow_add-end c = omega (arith, fits c, c.loop-y.invariant.1.whole, c.requires.2, c.well_formed.0.0)
-
-pub overflow_add-end-in-loop-y : goal.overflow_add-end-in-loop-y
-overflow_add-end-in-loop-y c = omega (arith, fits c, c.loop-y.invariant.1.whole, c.requires.2, c.well_formed.0.0)
-
-pub offset_bounds-out-start : goal.offset_bounds-out-start
-offset_bounds-out-start c = omega (arith, fits c, c.loop-y.invariant.1.whole, c.requires.2, c.well_formed.0.1)
-
-pub slice_bounds-inner_pair-end : goal.slice_bounds-inner_pair-end
-slice_bounds-inner_pair-end c = fits c
-
-pub inner_pair-requires : goal.inner_pair-requires
-inner_pair-requires c =
-    (c.requires.0, wide (goal.at.inner_pair-requires c).In-loop-y, c.loop-y.invariant.0, in_turn (goal.at.inner_pair-requires c).In-loop-y, c.requires.2)
-
-pub overflow_add-y-in-loop-y : goal.overflow_add-y-in-loop-y
-overflow_add-y-in-loop-y c = omega (arith, in_turn (goal.at.overflow_add-y-in-loop-y c).In-loop-y)
-
-pub loop-y-smaller : goal.loop-y-smaller
-loop-y-smaller c =
-    omega (arith, in_turn (goal.at.loop-y-smaller c).In-loop-y)
 
 pub loop-y-preserved : goal.loop-y-preserved
 loop-y-preserved c =
-    let a = c.args in
-    let l = c.loop-y in (
+    let p = c.args.img.now in
+    let w = p.shape.width in
+    let h = p.shape.height in
+    let y = c.loop-y.y in
+    let next : c.min-next.result ≡ y + 2 = c.min-next.ensures ∙ min-eq_right (omega arith) in (
       omega arith,
-      rows_up_to (response_at a.img.now a.width a.height) a.width a.height l.y (l.y + 2) (a.width + a.width) (l.y * a.width + a.width + a.width) l.out c.inner_pair.new.pair (omega (arith, in_turn (goal.at.loop-y-preserved c).In-loop-y)) (omega arith) (two_rows a.width l.y)
-          c.inner_pair.ensures l.invariant.1,
+      subst (λ (z : ℕ). Filled (response_at p.samples.now w h) (w * h) (z * w) (back c.loop-y.out (y * w) (c.min-next.result * w - y * w) c.inner_rows.new.rows)) next
+          (rows_between (response_at p.samples.now w h) w h y c.min-next.result c.loop-y.out c.inner_rows.new.rows (omega (arith, next)) (omega (arith, next)) c.inner_rows.ensures c.loop-y.invariant.1),
     )
 
-pub loop-y-2-init : goal.loop-y-2-init
-loop-y-2-init c = c.loop-y.invariant
+-- the loop comes up to the last row
+up_to : (c : Left-loop-y) → let p = c.args.img.now in let w = p.shape.width in
+    (z : ℕ) × (p.shape.height - 1 ≤ z) × Filled (response_at p.samples.now w p.shape.height) (w * p.shape.height) (z * w) c.loop-y-test.out
+up_to c =
+    let p = c.args.img.now in
+    let w = p.shape.width in
+    let h = p.shape.height in
+    let l = c.loop-y in
+    let f = response_at p.samples.now w h in
+    elim c.loop-y-test.branch [
+      | else-loop-y-test t ↦ (l.y, omega (arith, t.loop-y-test.false), subst (λ (out : List Float). Filled f (w * h) (l.y * w) out) (sym t.out-is) l.invariant.1)
+      | then-loop-y-test+else-last-y-gt2 t ↦
+          let next : t.min-next.result ≡ h - 1 = t.min-next.ensures ∙ min-eq_left (omega arith) in (
+            t.min-next.result,
+            omega (arith, next),
+            subst (λ (out : List Float). Filled f (w * h) (t.min-next.result * w) out) (sym t.out-is)
+                (rows_between f w h l.y t.min-next.result l.out t.inner_rows.new.rows (omega (arith, next, t.loop-y-test.true)) (omega (arith, next)) t.inner_rows.ensures l.invariant.1),
+          )
+    ]
 
-pub overflow_mul-start-in-loop-y-2 : goal.overflow_mul-start-in-loop-y-2
-overflow_mul-start-in-loop-y-2 c = omega (arith, fits2 (goal.at.overflow_mul-start-in-loop-y-2 c).At-loop-y-2 (omega (arith, in_turn2 c)), c.loop-y-2.invariant.1.whole, c.requires.2, c.well_formed.0.0)
+-- with the last row all are written
+module _ (img : List Float) (w h : ℕ) (out last : List Float) (z : ℕ) (some : 0 < h) (up : h - 1 ≤ z) (r : Filled (response_at img w h) (w * h) (z * w) out)
+    (is : last ≡ tabulate (length (take (length out - (h - 1) * w) (drop ((h - 1) * w) out))) (λ x. zero_f)) where
+  after : h - 1 + 1 ≡ h
+  after = omega (arith, some)
 
-pub overflow_add-end-in-loop-y-2 : goal.overflow_add-end-in-loop-y-2
-overflow_add-end-in-loop-y-2 c = omega (arith, fits2 (goal.at.overflow_add-end-in-loop-y-2 c).At-loop-y-2 (omega (arith, in_turn2 c)), c.loop-y-2.invariant.1.whole, c.requires.2, c.well_formed.0.0)
+  long : length out ≡ (h - 1) * w + w
+  long = omega (arith, r.whole, next_row w (h - 1), ap (λ (k : ℕ). k * w) after, mul_comm w h)
 
-pub offset_bounds-out-start-in-loop-y-2 : goal.offset_bounds-out-start-in-loop-y-2
-offset_bounds-out-start-in-loop-y-2 c = omega (arith, fits2 (goal.at.offset_bounds-out-start-in-loop-y-2 c).At-loop-y-2 (omega (arith, in_turn2 c)), c.loop-y-2.invariant.1.whole, c.requires.2, c.well_formed.0.1)
+  all_rows : back out ((h - 1) * w) (length out - (h - 1) * w) last ≡ response img w h
+  all_rows =
+      let wide = part_length out ((h - 1) * w) (length out) w (le_refl (length out)) long in
+      Filled-all (response_at img w h) (w * h) (length out) _ (omega (arith, r.whole))
+      (Filled-part (response_at img w h) (w * h) (z * w) ((h - 1) * w) (length out) w out last (mul-le-mul_right w up) (omega (arith, r.whole)) long
+      (is ∙ ap (λ (k : ℕ). tabulate k (λ x. zero_f)) wide ∙ border_row img w h (h - 1) (last_end h (h - 1) after)) r)
 
-pub slice_bounds-inner_row-end : goal.slice_bounds-inner_row-end
-slice_bounds-inner_row-end c = omega (arith, fits2 (goal.at.slice_bounds-inner_row-end c).At-loop-y-2 (omega (arith, in_turn2 c)))
-
-pub inner_row-requires : goal.inner_row-requires
-inner_row-requires c =
-    let b = wide2 (goal.at.inner_row-requires c).At-loop-y-2 (omega (arith, in_turn2 (goal.at.inner_row-requires c).In-loop-y-2)) in
-    (omega (arith, b, c.requires.0), c.loop-y-2.invariant.0, in_turn2 (goal.at.inner_row-requires c).In-loop-y-2, c.requires.2 ∙ ap (λ (n : ℕ). n * c.args.height) (sym b))
-
-pub loop-y-2-smaller : goal.loop-y-2-smaller
-loop-y-2-smaller c =
-    omega (arith, in_turn2 (goal.at.loop-y-2-smaller c).In-loop-y-2)
-
-pub loop-y-2-preserved : goal.loop-y-2-preserved
-loop-y-2-preserved c =
-    let a = c.args in
-    let l = c.loop-y-2 in
-    let b : l.y < a.height = omega (arith, in_turn2 (goal.at.loop-y-2-preserved c).In-loop-y-2) in (
-      omega arith,
-      rows_more (response_at a.img.now a.width a.height) a.width a.height l.y l.out c.inner_row.new.row b
-          (c.inner_row.ensures ∙ ap (λ (n : ℕ). tabulate n (λ x. response_at a.img.now n a.height (l.y * n + x))) (wide2 (goal.at.loop-y-2-preserved c).At-loop-y-2 b))
-          l.invariant.1,
-    )
-
-pub overflow_mul-start-then-y-height : goal.overflow_mul-start-then-y-height
-overflow_mul-start-then-y-height c =
-    omega (arith, fits2 (goal.at.overflow_mul-start-then-y-height c).At-loop-y-2 c.if-y-height.true, c.loop-y-2.invariant.1.whole, c.requires.2, c.well_formed.0.0)
-
-pub overflow_add-end-then-y-height : goal.overflow_add-end-then-y-height
-overflow_add-end-then-y-height c =
-    omega (arith, fits2 (goal.at.overflow_add-end-then-y-height c).At-loop-y-2 c.if-y-height.true, c.loop-y-2.invariant.1.whole, c.requires.2, c.well_formed.0.0)
-
-pub offset_bounds-out-start-then-y-height : goal.offset_bounds-out-start-then-y-height
-offset_bounds-out-start-then-y-height c =
-    omega (arith, fits2 (goal.at.offset_bounds-out-start-then-y-height c).At-loop-y-2 c.if-y-height.true, c.loop-y-2.invariant.1.whole, c.requires.2, c.well_formed.0.1)
-
-pub slice_bounds-clear-end-then-y-height : goal.slice_bounds-clear-end-then-y-height
-slice_bounds-clear-end-then-y-height c = omega (arith, fits2 (goal.at.slice_bounds-clear-end-then-y-height c).At-loop-y-2 c.if-y-height.true)
-
--- the last row is written
-whole : (c : After-clear-then-y-height) → let a = c.args in
-    Filled (response_at a.img.now a.width a.height) (a.width * a.height) ((c.loop-y-2.y + 1) * a.width) (back c.loop-y-2.out (c.loop-y-2.y * a.width) (c.loop-y-2.y * a.width + a.width - c.loop-y-2.y * a.width) c.clear-then-y-height.new.row)
-whole c =
-    let a = c.args in
-    let e : c.loop-y-2.y + 1 ≡ a.height = omega (arith, c.if-y-height.true, c.loop-y-2-test.false) in
-    rows_more (response_at a.img.now a.width a.height) a.width a.height c.loop-y-2.y c.loop-y-2.out c.clear-then-y-height.new.row c.if-y-height.true
-    (c.clear-then-y-height.ensures ∙ ap (λ (k : ℕ). tabulate k (λ x. zero_f)) (wide2 (goal.at.After-clear-then-y-height c).At-loop-y-2 c.if-y-height.true) ∙ border_row a.img.now a.width a.height c.loop-y-2.y (last_end a.height c.loop-y-2.y e))
-    c.loop-y-2.invariant.1
-
-pub shape_of-out-then-y-height : goal.shape_of-out-then-y-height
-shape_of-out-then-y-height c =
-    (whole (goal.at.shape_of-out-then-y-height c).After-clear-then-y-height).whole ∙ sym c.requires.3
-
-pub returns-then-y-height : goal.returns-then-y-height
-returns-then-y-height c =
-    let a = c.args in
-    rows_all (response_at a.img.now a.width a.height) a.width a.height (c.loop-y-2.y + 1) _ (omega (arith, c.loop-y-2-test.false)) (whole (goal.at.returns-then-y-height c).After-clear-then-y-height)
-
-pub shape_of-out-else-y-height : goal.shape_of-out-else-y-height
-shape_of-out-else-y-height c =
-    c.loop-y-2.invariant.1.whole ∙ sym c.requires.3
-
-pub returns-else-y-height : goal.returns-else-y-height
-returns-else-y-height c =
-    let a = c.args in
-    rows_all (response_at a.img.now a.width a.height) a.width a.height c.loop-y-2.y c.loop-y-2.out c.if-y-height.false c.loop-y-2.invariant.1
+pub returns : goal.returns
+returns c =
+    let p = c.args.img.now in
+    let u = up_to (goal.at.returns c).Left-loop-y in
+    all_rows p.samples.now p.shape.width p.shape.height c.loop-y-test.out c.fill-2.new.self u.0 c.requires.0 u.1 u.2 (c.fill-2.ensures.after (λ y e. search rules) ∙ zeros _ _)

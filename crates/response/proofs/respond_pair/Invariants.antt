@@ -1,12 +1,8 @@
 -- The loop keeps: the places before x of both rows are written.
-use Prim.Native.Nat.{◌-◌, ◌<◌}
-use lib.ListN.{length}
+use Rattle.std.proofs.Common.{length}
 use Rattle.response.specs.Steps.{row_response}
 use Rattle.response.proofs.Pairs.{Pair}
 use Rattle.response.proofs.respond_pair.Given as goal
 
 abbrev pub invariant-loop-x : goal.invariant-loop-x
-invariant-loop-x l = (0 < l.x) × Pair (row_response l.above l.upper l.lower (length l.above)) (row_response l.upper l.lower l.below (length l.above)) (length l.above) l.x l.pair
-
-abbrev pub decreases-loop-x : goal.decreases-loop-x
-decreases-loop-x l = length l.above - l.x
+invariant-loop-x l = Pair (row_response l.above l.upper l.lower (length l.above)) (row_response l.upper l.lower l.below (length l.above)) (length l.above) l.x l.pair

@@ -1,7 +1,5 @@
 -- The loop keeps: the samples before x are written.
-use mathlib.Core.List.{List}
-use Prim.Native.Nat.{ℕ, ◌-◌, ◌<◌}
-use lib.ListN.{length}
+use Rattle.std.proofs.Common.{List, ℕ, length}
 use lib.Ieee.{Float}
 use Rattle.lists.proofs.Rows.{Filled}
 use Rattle.response.specs.Steps.{row_response}
@@ -12,7 +10,4 @@ abbrev pub f : List Float → List Float → List Float → ℕ → Float
 f above here below = row_response above here below (length above)
 
 abbrev pub invariant-loop-x : goal.invariant-loop-x
-invariant-loop-x l = (0 < l.x) × Filled (f l.above l.here l.below) (length l.above) l.x l.row
-
-abbrev pub decreases-loop-x : goal.decreases-loop-x
-decreases-loop-x l = length l.above - l.x
+invariant-loop-x l = Filled (f l.above l.here l.below) (length l.above) l.x l.row

@@ -1,4 +1,4 @@
--- The test of what was gathered, with that of the codes from i on, is the test of all codes. Assumes nothing.
+-- The test of what was gathered, with that of the codes that are left, is the test of all codes. Assumes nothing.
 use mathlib.Core.Path.{sym, ap, ◌∙◌}
 use mathlib.Core.Bool.{Bool, ◌&&◌}
 use Prim.Native.Nat.{ℕ, ◌^◌}
@@ -14,24 +14,21 @@ use Rattle.lists.proofs.All.{gather_more, gather_done, or_below}
 use Rattle.tables.specs.Table.{below}
 use Rattle.tables.proofs.all_below.Goals as goal
 
-pub loop-i-init : goal.loop-i-init
-loop-i-init c =
-    let a = c.args in
-    (omega arith, sym (ap (λ (t : Bool). t && all (below (2 ^ a.places)) a.codes.now) (lt-ltb 0 (2 ^ a.places) (pow_pos a.places))))
+pub loop-code-init : goal.loop-code-init
+loop-code-init c =
+    let a = c.args in sym (ap (λ (t : Bool). t && all (below (2 ^ a.places)) a.codes.now) (lt-ltb 0 (2 ^ a.places) (pow_pos a.places)))
 
-pub loop-i-preserved : goal.loop-i-preserved
-loop-i-preserved c =
-    let a = c.args in
-    let o = c.loop-i in
-    let code = get_or a.codes.now o.i 0 in
-    (omega arith, gather_more (below (2 ^ a.places)) a.codes.now o.i 0 (omega arith) (below (2 ^ a.places) o.gathered) (below (2 ^ a.places) (bit_or o.gathered code)) (or_below a.places o.gathered code) o.invariant.1)
-
-pub overflow_shl-result : goal.overflow_shl-result
-overflow_shl-result c = omega (arith, c.requires)
+pub loop-code-preserved : goal.loop-code-preserved
+loop-code-preserved c =
+    let k = c.args.places in
+    let codes = c.args.codes.now in
+    let l = c.loop-code in
+    let code = get_or codes l.code-index 0 in
+    gather_more (below (2 ^ k)) codes l.code-index 0 c.loop-code-test.true (below (2 ^ k) l.gathered) (below (2 ^ k) (bit_or l.gathered code)) (or_below k l.gathered code) l.invariant
 
 pub returns : goal.returns
 returns c =
-    let l = c.loop-i in
+    let l = c.loop-code in
     let k = c.args.places in
     ap (λ (n : ℕ). ltb l.gathered n) (shl_exact 1 k 64 (omega arith) (omega (arith, c.requires)) ∙ one-mul (2 ^ k))
-    ∙ gather_done (below (2 ^ k)) c.args.codes.now l.i c.loop-i-test.false (below (2 ^ k) l.gathered) l.invariant.1
+    ∙ gather_done (below (2 ^ k)) c.args.codes.now l.code-index c.loop-code-test.false (below (2 ^ k) l.gathered) l.invariant

@@ -1,72 +1,90 @@
--- The loop keeps: all samples are tame exactly if the flag is true and all samples from i on are, and then the lanes have taken in the
--- first i samples.
-use mathlib.Core.Path.{◌≡◌, refl, sym, ap, ◌∙◌}
-use mathlib.Core.Bool.{Bool, ◌&&◌}
-use mathlib.Core.List.{List}
-use Prim.Native.Nat.{ℕ, ◌+◌, ◌-◌}
-use native.Mathlib.Omega.{arith}
-use lib.ListN.{length, get_or, take, drop, length-drop, length-replicate}
-use lib.Seq.{take_all, length-take-le, get_or-take, get_or-drop}
+-- The lanes take in the samples of each block, and what is left is taken in at the end.
+use Rattle.std.proofs.Common.{◌≡◌, refl, sym, ap, ◌∙◌, subst, Bool, true, false, ◌&&◌, ℕ, ◌+◌, ◌*◌, ◌/◌, ◌<◌, ◌≤◌, List, [], length, get_or, take, drop, length-drop, arith}
+use Rattle.std.specs.Simd.{first_chunks}
+use Rattle.std.specs.Simd.Lanes.{zip2}
+use mathlib.Core.Bool.{true≢false}
 use lib.Ieee.{Float, nan, eq}
+use lib.Seq.{length-take-le, get_or-take, get_or-drop}
 use Rattle.lists.specs.Tab.{all}
-use Rattle.lists.proofs.Tab.{length-tabulate}
 use Rattle.samples.specs.Samples.{tame}
+use Rattle.samples.proofs.Laws.{block_is, block_next, tame_is}
 use Rattle.threshold.specs.Threshold.{lowest_of, lowest}
-use Rattle.threshold.proofs.Lanes.{all-finite, Lanes-none, Lanes-more, lanes_all, gather_part}
+use Rattle.threshold.proofs.Lanes.{Lanes, lower, all-finite, Lanes-none, Lanes-more, lanes_all}
 use Rattle.threshold.proofs.find_lowest.Goals as goal
+use Rattle.threshold.proofs.find_lowest.Goals.{After-hold_lanes, After-hold}
 
--- from the start of a block to its end
-block_length : (i : ℕ) → i + 32 - i ≡ 32
-block_length i = omega arith
+block : (bs : List (List Float)) (d : List Float) (l : List Float) (k n : ℕ) → bs ≡ first_chunks 16 n l → k < n → get_or bs k d ≡ take 16 (drop (k * 16) l)
+block bs d l k n e h = ap (λ (x : List (List Float)). get_or x k d) e ∙ block_is tame 16 n l k d h
 
-pub bounds-samples-0 : goal.bounds-samples-0
-bounds-samples-0 c = c.requires
-
-pub loop-i-init : goal.loop-i-init
-loop-i-init c =
+-- the test of a block
+tested : (c : After-hold_lanes) → c.hold_lanes.result ≡ all tame (take 16 (drop (c.loop-block.block-index * 16) c.args.samples.now))
+tested c =
     let l = c.args.samples.now in
-    (omega arith, length-replicate 32 (get_or l 0 nan), refl, λ e. Lanes-none l c.requires (all-finite l e) 32)
+    c.hold_lanes.ensures ∙ ap (λ (p : Float → Bool). all p (get_or c.as_chunks.result.0.now c.loop-block.block-index [])) tame_is ∙ ap (all tame) (block _ _ l c.loop-block.block-index (length l / 16) c.as_chunks.ensures.front (let h = c.loop-block-test.true in omega arith))
 
-pub overflow_add-i : goal.overflow_add-i
-overflow_add-i c = omega (arith, c.loop-i.invariant.0, c.well_formed.0.1)
-
-pub slice_bounds-lower_each-end : goal.slice_bounds-lower_each-end
-slice_bounds-lower_each-end c = sym c.loop-i.invariant.1
-
-pub lower_each-requires : goal.lower_each-requires
-lower_each-requires c =
-    let i = c.loop-i.i in
+next : (c : After-hold_lanes) (b : Bool) → c.hold_lanes.result ≡ b → all tame c.args.samples.now ≡ b && all tame (drop ((c.loop-block.block-index + 1) * 16) c.args.samples.now)
+next c b e =
     let l = c.args.samples.now in
-    length-take-le (i + 32 - i) (drop i l) (omega (arith, c.loop-i-test.true, length-drop i l)) ∙ block_length i ∙ sym c.loop-i.invariant.1
+    let k = c.loop-block.block-index in
+    c.loop-block.invariant.tested
+    ∙ block_next tame 16 k l
+    ∙ ap (λ (x : Bool). x && all tame (drop ((k + 1) * 16) l)) (sym (tested c) ∙ e)
 
-pub loop-i-preserved : goal.loop-i-preserved
-loop-i-preserved c =
-    let h = c.loop-i in
+-- the rest, and the test of it
+left : (c : After-hold) → c.as_chunks.result.1.now ≡ drop (c.loop-block.block-index * 16) c.args.samples.now
+left c =
     let l = c.args.samples.now in
-    let i = h.i in
-    let part = take (i + 32 - i) (drop i l) in
-    let e : c.all_tame-good.result ≡ all tame (take 32 (drop i l)) = c.all_tame-good.ensures ∙ ap (λ (k : ℕ). all tame (take k (drop i l))) (block_length i) in (
-      c.loop-i-test.true,
-      ap length c.lower_each.ensures ∙ length-tabulate (length h.lanes) _ ∙ h.invariant.1,
-      gather_part tame l i 32 h.good h.invariant.2 ∙ ap (λ (x : Bool). (h.good && x) && all tame (drop (i + 32) l)) (sym e),
-      λ g.
-          Lanes-more l c.requires (all-finite l g) 32 i h.lanes part c.lower_each.new.lows c.loop-i-test.true
-          (λ j b. get_or-take (i + 32 - i) (drop i l) j nan (omega arith) ∙ get_or-drop i l j nan)
-          c.lower_each.ensures (h.invariant.3 g),
-    )
+    let e : length l / 16 ≡ c.loop-block.block-index = omega arith in
+    c.as_chunks.ensures.back ∙ ap (λ (n : ℕ). drop (n * 16) l) e
 
-pub slice_bounds-lowest_of-end : goal.slice_bounds-lowest_of-end
-slice_bounds-lowest_of-end c = sym c.loop-i.invariant.1
+whole : (c : After-hold) → c.hold.result ≡ all tame c.args.samples.now
+whole c = c.hold.ensures ∙ ap (λ (p : Float → Bool). all p c.as_chunks.result.1.now) tame_is ∙ ap (all tame) (left c) ∙ sym c.loop-block.invariant.tested
 
-pub returns : goal.returns
-returns c =
-    let h = c.loop-i in
+pub loop-block-init : goal.loop-block-init
+loop-block-init c =
     let l = c.args.samples.now in
-    let e : take (length l - h.i) (drop h.i l) ≡ drop h.i l = take_all (length l - h.i) (drop h.i l) (omega (arith, length-drop h.i l)) in
-    let good : h.good && c.all_tame-good-2.result ≡ all tame l = ap (λ (b : Bool). h.good && b) (c.all_tame-good-2.ensures ∙ ap (all tame) e) ∙ sym h.invariant.2 in (
-      good,
-      λ g.
-          (let f = all-finite l (sym good ∙ g) in
-          ap (λ (v : Float). eq v (lowest l)) (c.lowest_of-low.ensures ∙ ap (λ (x : List Float). lowest_of c.lowest_of-gathered.result x) e ∙ ap (λ (v : Float). lowest_of v (drop h.i l)) c.lowest_of-gathered.ensures)
-          ∙ lanes_all l c.requires f 32 h.i h.lanes h.invariant.0 (h.invariant.3 (sym good ∙ g))),
-    )
+    record { tested = refl; lowered = λ e. Lanes-none l c.requires (all-finite l e) 16 }
+
+pub loop-block-preserved : goal.loop-block-preserved
+loop-block-preserved c =
+    let h = c.loop-block in
+    let l = c.args.samples.now in
+    let k = h.block-index in
+    let i = k * 16 in
+    let part = take 16 (drop i l) in
+    let fits : i + 16 ≤ length l = omega arith in
+    let long : length part ≡ 16 = length-take-le 16 (drop i l) (omega (arith, length-drop i l)) in
+    let e = block _ _ l k (length l / 16) c.as_chunks.ensures.front (omega arith) in
+    record {
+      tested = next (goal.at.loop-block-preserved c).After-hold_lanes true c.if-not-hold_lanes.false;
+      lowered =
+          λ g.
+          subst (λ (m : ℕ). Lanes l 16 m c.lower_each-lanes.result) (omega arith)
+          (Lanes-more l c.requires (all-finite l g) 16 i h.lanes part c.lower_each-lanes.result fits
+          (λ j b. get_or-take 16 (drop i l) j nan b ∙ get_or-drop i l j nan)
+          long
+          (c.lower_each-lanes.ensures ∙ ap (zip2 lower h.lanes) e) (h.invariant.lowered g));
+    }
+
+pub returns-then-not-hold_lanes-clause-tame : goal.returns-then-not-hold_lanes-clause-tame
+returns-then-not-hold_lanes-clause-tame c =
+    (λ e. absurd (true≢false (sym e)), λ e. sym (next (goal.at.returns-then-not-hold_lanes-clause-tame c).After-hold_lanes false c.if-not-hold_lanes.true) ∙ e)
+
+pub returns-then-not-hold-clause-tame : goal.returns-then-not-hold-clause-tame
+returns-then-not-hold-clause-tame c =
+    (λ e. absurd (true≢false (sym e)), λ e. sym (sym (whole (goal.at.returns-then-not-hold-clause-tame c).After-hold) ∙ c.if-not-hold.true) ∙ e)
+
+pub returns-clause-tame : goal.returns-clause-tame
+returns-clause-tame c = (λ e. sym (whole (goal.at.returns-clause-tame c).After-hold) ∙ c.if-not-hold.false, λ e. refl)
+
+pub returns-clause-low : goal.returns-clause-low
+returns-clause-low c =
+    let h = c.loop-block in
+    let l = c.args.samples.now in
+    let i = h.block-index * 16 in
+    let good : all tame l ≡ true = sym (whole (goal.at.returns-clause-low c).After-hold) ∙ c.if-not-hold.false in
+    ap (λ (v : Float). eq v (lowest l))
+    (c.lowest_of.ensures
+    ∙ ap (λ (x : List Float). lowest_of c.lowest_of-gathered.result x) (left (goal.at.returns-clause-low c).After-hold)
+    ∙ ap (λ (v : Float). lowest_of v (drop i l)) c.lowest_of-gathered.ensures)
+    ∙ lanes_all l c.requires (all-finite l good) 16 i h.lanes (omega arith) (h.invariant.lowered good)

@@ -1,17 +1,12 @@
--- The loop keeps: all samples are tame exactly if the flag is true and all samples from i on are, and then the lanes have taken in the
--- first i samples.
-use mathlib.Core.Path.{◌≡◌}
-use mathlib.Core.Bool.{true, ◌&&◌}
-use Prim.Native.Nat.{◌-◌, ◌≤◌}
-use lib.ListN.{length, drop}
+-- The loop keeps: the samples of the blocks so far are tame, and the lanes have taken them in.
+use Rattle.std.proofs.Common.{◌≡◌, ◌*◌, true, drop}
 use Rattle.lists.specs.Tab.{all}
 use Rattle.samples.specs.Samples.{tame}
 use Rattle.threshold.proofs.Lanes.{Lanes}
 use Rattle.threshold.proofs.find_lowest.Given as goal
 
-abbrev pub invariant-loop-i : goal.invariant-loop-i
-invariant-loop-i l =
-    (l.i ≤ length l.samples) × (length l.lanes ≡ 32) × (all tame l.samples ≡ l.good && all tame (drop l.i l.samples)) × (all tame l.samples ≡ true → Lanes l.samples 32 l.i l.lanes)
-
-abbrev pub decreases-loop-i : goal.decreases-loop-i
-decreases-loop-i l = length l.samples - l.i
+abbrev pub invariant-loop-block : goal.invariant-loop-block
+invariant-loop-block l = record {
+  tested : all tame l.samples ≡ all tame (drop (l.block-index * 16) l.samples);
+  lowered : all tame l.samples ≡ true → Lanes l.samples 16 (l.block-index * 16) l.lanes;
+}

@@ -35,7 +35,7 @@ module _ (e w i j b : ℕ) (some : 1 ≤ j) (so_far : b ≡ turn e w / 2 ^ (i * 
       ex ∙ ap (bit w) ef ∙ sym (bit-turn e w place (digits_lt hi l))
 
 pub loop-i-init : goal.loop-i-init
-loop-i-init c = let a = c.args in (omega arith, sym (div-eq_of_lt (turn-lt a.edge a.bits)))
+loop-i-init c = sym (div-eq_of_lt (turn-lt c.args.edge c.args.bits))
 
 pub loop-j-init : goal.loop-j-init
 loop-j-init c =
@@ -44,7 +44,7 @@ loop-j-init c =
     let e = a.edge in
     let r : l.i ≡ l.i - 1 + 1 = omega arith in
     let s = ap (λ (n : ℕ). n * e) (r ∙ add-one (l.i - 1)) ∙ suc-mul (l.i - 1) e in
-    (omega arith, l.invariant.1 ∙ ap (λ (k : ℕ). turn e a.bits / 2 ^ k) s)
+    l.invariant ∙ ap (λ (k : ℕ). turn e a.bits / 2 ^ k) s
 
 pub loop-i-preserved : goal.loop-i-preserved
 loop-i-preserved c =
@@ -52,13 +52,13 @@ loop-i-preserved c =
     let i = c.loop-i.i - 1 in
     let a = c.args in
     let s : i * a.edge + l.j ≡ i * a.edge = omega arith in
-    (omega arith, l.invariant.1 ∙ ap (λ (k : ℕ). turn a.edge a.bits / 2 ^ k) s)
+    l.invariant ∙ ap (λ (k : ℕ). turn a.edge a.bits / 2 ^ k) s
 
 pub overflow_mul-b : goal.overflow_mul-b
 overflow_mul-b c =
     let l = c.loop-j in
     let a = c.args in
-    omega (arith, fits a.edge a.bits (c.loop-i.i - 1) l.j l.b (omega arith) l.invariant.1 (omega arith))
+    omega (arith, fits a.edge a.bits (c.loop-i.i - 1) l.j l.b (omega arith) l.invariant (omega arith))
 
 -- the bit that is put to `b`
 module _ (c : After-bit_at) where
@@ -66,24 +66,24 @@ module _ (c : After-bit_at) where
   put =
       let a = c.args in
       let l = c.loop-j in
-      bit_is a.edge a.bits (c.loop-i.i - 1) l.j l.b (omega arith) l.invariant.1 (omega arith) (omega arith) c.source_place.result c.bit_at.result c.source_place.ensures.0 c.bit_at.ensures
+      bit_is a.edge a.bits (c.loop-i.i - 1) l.j l.b (omega arith) l.invariant (omega arith) (omega arith) c.source_place.result c.bit_at.result c.source_place.ensures.0 c.bit_at.ensures
 
 pub overflow_add-b : goal.overflow_add-b
 overflow_add-b c =
     let a = c.args in
-    omega (arith, put c, fits a.edge a.bits (c.loop-i.i - 1) c.loop-j.j c.loop-j.b (omega arith) c.loop-j.invariant.1 (omega arith))
+    omega (arith, put c, fits a.edge a.bits (c.loop-i.i - 1) c.loop-j.j c.loop-j.b (omega arith) c.loop-j.invariant (omega arith))
 
 pub loop-j-preserved : goal.loop-j-preserved
 loop-j-preserved c =
     let a = c.args in
-    (omega arith, ap (λ (x : ℕ). c.loop-j.b * 2 + x) (put c) ∙ lower a.edge a.bits (c.loop-i.i - 1) c.loop-j.j c.loop-j.b (omega arith) c.loop-j.invariant.1)
+    ap (λ (x : ℕ). c.loop-j.b * 2 + x) (put c) ∙ lower a.edge a.bits (c.loop-i.i - 1) c.loop-j.j c.loop-j.b (omega arith) c.loop-j.invariant
 
 pub returns : goal.returns
 returns c =
     let l = c.loop-i in
     let a = c.args in
     let i : l.i ≡ 0 = omega arith in
-    l.invariant.1 ∙ ap (λ (n : ℕ). turn a.edge a.bits / 2 ^ n) (ap (λ (n : ℕ). n * a.edge) i ∙ zero-mul a.edge) ∙ div-one (turn a.edge a.bits)
+    l.invariant ∙ ap (λ (n : ℕ). turn a.edge a.bits / 2 ^ n) (ap (λ (n : ℕ). n * a.edge) i ∙ zero-mul a.edge) ∙ div-one (turn a.edge a.bits)
 
 pub bit_at-requires : goal.bit_at-requires
 bit_at-requires c = c.source_place.ensures.1

@@ -1,8 +1,8 @@
 -- Before place k, `b` is the word of the k places below it. Assumes nothing.
 use mathlib.Core.Path.{◌≡◌}
 use mathlib.Core.List.{List}
-use Prim.Native.Nat.{ℕ, ◌-◌, ◌≤◌}
-use lib.ListN.{length, get_or}
+use Prim.Native.Nat.{ℕ}
+use lib.ListN.{get_or}
 use Rattle.word.specs.Word.{bit, word}
 use Rattle.word.proofs.by_table.Given as goal
 
@@ -11,7 +11,4 @@ abbrev pub taken : List ℕ → ℕ → ℕ → ℕ
 taken table bits k = bit bits (get_or table k 0)
 
 abbrev pub invariant-loop-k : goal.invariant-loop-k
-invariant-loop-k l = (l.k ≤ length l.table) × (l.b ≡ word l.k (taken l.table l.bits))
-
-abbrev pub decreases-loop-k : goal.decreases-loop-k
-decreases-loop-k l = length l.table - l.k
+invariant-loop-k l = l.b ≡ word l.k (taken l.table l.bits)

@@ -10,6 +10,3 @@ returns-in-Tag c =
     let eight : length c.args.corners.now ≡ 8 = search rules in
     rw c.in-Tag.is
     record { answered = refl; id_written = refl; turn_written = refl; differing_written = refl; corners_written = c.put_quad.ensures ∙ filled _ c.args.corners.now eight }
-
-pub returns-in-Refused : goal.returns-in-Refused
-returns-in-Refused c = rw c.in-Refused.is record { answered = refl; id_written = refl; turn_written = refl; differing_written = refl; corners_written = refl }

@@ -1,72 +1,57 @@
--- The tests in turn, then the plane is filled and the tag drawn. Assumes nothing.
-use mathlib.Core.Path.{sym, ap, ◌∙◌}
-use Prim.Native.Nat.{ℕ}
+-- What the tests let through can be painted.
+use mathlib.Core.Path.{◌≡◌}
 use native.Mathlib.Omega.{arith}
 use lib.ListN.{length}
-use Rattle.refusals.specs.Pixels.{bad_frame}
+use borrow.Author.Rules.{rules}
+use Rattle.painter.specs.Tag.{drawn}
+use Rattle.painter.specs.Corners.{print_quad}
 use Rattle.painter.specs.Printable.{Printable}
-use Rattle.painter.proofs.Picture.{length-repainted}
-use Rattle.painter.proofs.Printable.{Good-print}
-use Rattle.muosleap_paint.specs.PaintTag.{paint_tag}
+use Rattle.painter.proofs.Printable.{Good-print, print_parts}
 use Rattle.muosleap_paint.proofs.PaintTag.{paint_steps}
-use Rattle.muosleap_paint.proofs.painting.paint_tag.Goals.{Else-bad_print}
+use Rattle.muosleap_paint.proofs.painting.paint_tag.Goals.{After-fill}
 use Rattle.muosleap_paint.proofs.painting.paint_tag.Goals as goal
 
-pub returns-then-bad_frame : goal.returns-then-bad_frame
-unfolding paint_tag
-returns-then-bad_frame c = simp (sym c.bad_frame.ensures ∙ c.if-bad_frame.true)
-
-pub returns-then-bad_edge : goal.returns-then-bad_edge
-unfolding paint_tag
-returns-then-bad_edge c =
-    simp (sym c.bad_frame.ensures ∙ c.if-bad_frame.false, sym c.bad_edge.ensures ∙ c.if-bad_edge.true)
-
-pub returns-then-bad_border : goal.returns-then-bad_border
-unfolding paint_tag
-returns-then-bad_border c =
-    simp (sym c.bad_frame.ensures ∙ c.if-bad_frame.false, sym c.bad_edge.ensures ∙ c.if-bad_edge.false, sym c.bad_border.ensures ∙ c.if-bad_border.true)
-
-pub bad_print-requires : goal.bad_print-requires
-bad_print-requires c =
-    (sym c.bad_edge.ensures ∙ c.if-bad_edge.false, sym c.bad_border.ensures ∙ c.if-bad_border.false)
-
-pub returns-then-bad_print : goal.returns-then-bad_print
-unfolding paint_tag
-returns-then-bad_print c =
-    simp (sym c.bad_frame.ensures ∙ c.if-bad_frame.false, sym c.bad_edge.ensures ∙ c.if-bad_edge.false, sym c.bad_border.ensures ∙ c.if-bad_border.false, sym c.bad_print.ensures ∙ c.if-bad_print.true)
-
--- past all tests, a tag can be drawn
-printable : (c : Else-bad_print) → let a = c.args in
-    Printable (length a.plane.now) a.frame a.edge a.border a.word a.print
+printable : (c : After-fill) → let a = c.args in Printable (length a.plane.now) a.frame a.edge a.border a.word a.print
 printable c =
+    let s = c.in_ok-square.ensures.ok in
     record {
-      planes = sym c.bad_frame.ensures ∙ c.if-bad_frame.false;
-      edges = sym c.bad_edge.ensures ∙ c.if-bad_edge.false;
-      borders = sym c.bad_border.ensures ∙ c.if-bad_border.false;
-      prints = sym c.bad_print.ensures ∙ c.if-bad_print.false;
+      planes = c.in_ok-check_plane.ensures.ok;
+      edges = rw s.0 at c.in_ok-square.square.edges;
+      borders = rw s.1 at c.in_ok-square.square.borders;
+      prints = rw (s.0, s.1) at c.in_ok-tag.ensures.ok.3;
     }
-
-pub fill-requires : goal.fill-requires
-fill-requires c = (printable (goal.at.fill-requires c).Else-bad_print).planes
 
 pub draw_tag-requires : goal.draw_tag-requires
 draw_tag-requires c =
-    let a = c.args in
-    let p = printable (goal.at.draw_tag-requires c).Else-bad_print in
-    record {
-      planes = ap (λ (n : ℕ). bad_frame n a.frame) (ap length c.fill.ensures ∙ length-repainted a.frame (λ x y old. a.print.light) a.plane.now) ∙ p.planes;
-      edges = p.edges;
-      borders = p.borders;
-      prints = p.prints;
-    }
+    let p = print_parts _ _ _ _ _ (printable (goal.at.draw_tag-requires c).After-fill).prints in
+    let s = c.in_ok-square.ensures.ok in
+    let t = c.in_ok-tag.ensures.ok in
+    rw (c.fill.ensures.same_frame, t.0, t.2, s.0, s.1) record { placed = p.placed }
 
-pub print_quad-requires : goal.print_quad-requires
-print_quad-requires c =
-    let g = Good-print (printable (goal.at.print_quad-requires c).Else-bad_print) in
-    (omega (arith, g.placed.right, g.framed.sides.width_le), omega (arith, g.placed.low, g.framed.sides.height_le))
+pub quad-requires-clause-across : goal.quad-requires-clause-across
+quad-requires-clause-across c =
+    let g = Good-print (printable (goal.at.quad-requires-clause-across c).After-fill) in
+    let s = c.in_ok-square.ensures.ok in
+    let t = c.in_ok-tag.ensures.ok in
+    rw (t.0, t.2, s.0, s.1) (omega (arith, g.placed.right, g.framed.sides.width_le))
+
+pub quad-requires-clause-down : goal.quad-requires-clause-down
+quad-requires-clause-down c =
+    let g = Good-print (printable (goal.at.quad-requires-clause-down c).After-fill) in
+    let s = c.in_ok-square.ensures.ok in
+    let t = c.in_ok-tag.ensures.ok in
+    rw (t.0, t.2, s.0, s.1) (omega (arith, g.placed.low, g.framed.sides.height_le))
 
 pub returns : goal.returns
 returns c =
     let a = c.args in
-    paint_steps a.plane.now a.frame a.edge a.border a.word a.print c.fill.new.plane c.draw_tag.new.plane c.print_quad.result (printable (goal.at.returns c).Else-bad_print)
-    c.fill.ensures c.draw_tag.ensures c.print_quad.ensures
+    let s = c.in_ok-square.ensures.ok in
+    let t = c.in_ok-tag.ensures.ok in
+    let light = c.fill.new.self.bytes.now in
+    let draws : c.draw_tag.new.self.bytes.now ≡ drawn a.frame a.edge a.border a.word a.print light =
+    rw (c.fill.ensures.same_frame, t.0, t.1, t.2, s.0, s.1) at c.draw_tag.ensures.drawn in
+    let quad : c.quad.result ≡ print_quad a.edge a.border a.print = rw (t.0, t.2, s.0, s.1) at c.quad.ensures in
+    let painted =
+    paint_steps a.plane.now a.frame a.edge a.border a.word a.print light c.draw_tag.new.self.bytes.now c.quad.result (printable (goal.at.returns c).After-fill)
+    c.fill.ensures.filled draws quad in
+    search (rules, painted)

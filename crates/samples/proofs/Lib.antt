@@ -1,0 +1,2 @@
+pub mod LaneTests
+pub mod Laws
