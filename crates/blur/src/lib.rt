@@ -8,11 +8,11 @@ ghost use Rattle.std.specs.Prelude.{◌≡◌, ◌+◌, ◌-◌, ◌*◌, ◌<�
 ghost use Rattle.std.specs.Float.{nan};
 ghost use Rattle.lists.specs.Tab.{tabulate};
 ghost use Rattle.blur.specs.Blur.{bad_weights, along, repeated, across, down};
-ghost use Rattle.blur.specs.Steps.{added, apart, sums};
+ghost use Rattle.blur.specs.Steps.{added, Reach, sums_at};
 
 use samples::{Plane, UNIT};
 
-// How many sums are made together.
+/// How many sums are made together.
 const BLOCK: usize = 32;
 
 /// Refusal 2: the weights are not an odd number from 1 to 15, or one is outside of 0.0 to 1.0 or a NaN.
@@ -23,8 +23,8 @@ pub fn bad_weights(weights: &[f32]) -> bool
     weights.len() % 2 == 0 || 15 < weights.len() || !UNIT.hold(weights)
 }
 
-// Adds to each sum the sample at its place times `weight`. The sums are gone over by their index: a proof knows what a loop over
-// `iter_mut().zip(samples)` leaves only by its length.
+/// Adds to each sum the sample at its place times `weight`. The sums are gone over by their index: a proof knows what a loop over
+/// `iter_mut().zip(samples)` leaves only by its length.
 fn add_weighted(sums: &mut [f32], samples: &[f32], weight: f32)
     requires { length samples.now ≡ length sums.old }
     ensures { sums.new ≡ added sums.old (λ x. get_or samples.now x nan) weight }
@@ -34,54 +34,61 @@ fn add_weighted(sums: &mut [f32], samples: &[f32], weight: f32)
     }
 }
 
-// Sums side by side, one weight at a time: sum x has its taps at `start + x`, `start + step + x`, `start + 2 * step + x`, ..
-fn sum_taps(row: &mut [f32], img: &[f32], start: usize, step: usize, weights: &[f32])
-    requires { (length weights.now - 1) * step + start + length row.old ≤ length img.now }
-    ensures { row.new ≡ sums weights.now (apart img.now start step) (length row.old) (length weights.now) }
-{
-    let n = row.len();
-    row.fill(0.0);
-    for (k, &weight) in weights.iter().enumerate() {
-        let from = k * step + start;
-        add_weighted(row, &img[from..from + n], weight);
+/// Where the taps of sums that stand side by side are: sum x has its taps at `start + x`, `start + step + x`,
+/// `start + 2 * step + x`, .. of `img`, one for each weight.
+#[derive(Clone, Copy)]
+struct Taps<'a> {
+    img: &'a [f32],
+    start: usize,
+    step: usize,
+    weights: &'a [f32],
+}
+
+impl Taps<'_> {
+    /// The sums into `row`, one weight at a time.
+    fn sum(self, row: &mut [f32])
+        requires { Reach self (length row.old) }
+        ensures { row.new ≡ sums_at self.entry (length row.old) }
+    {
+        let n = row.len();
+        row.fill(0.0);
+        for (k, &weight) in self.weights.iter().enumerate() {
+            let from = k * self.step + self.start;
+            add_weighted(row, &self.img[from..from + n], weight);
+        }
+    }
+
+    /// The sums of a block. They are added up in an array of their own, which the compiler keeps in registers: sums in `block` would
+    /// go to memory and back with each weight.
+    fn sum_block(self, block: &mut [f32])
+        requires { (length block.old ≡ 32) × Reach self 32 }
+        ensures { block.new ≡ sums_at self.entry 32 }
+    {
+        let mut sums = [0.0; BLOCK];
+        self.sum(&mut sums);
+        block.copy_from_slice(&sums);
+    }
+
+    /// Any number of sums, in blocks. The last block ends where the row ends. It may lie over a part of the block before it, whose sums
+    /// it makes again.
+    fn sum_blocks(self, row: &mut [f32])
+        requires { Reach self (length row.old) }
+        ensures { row.new ≡ sums_at self.entry (length row.old) }
+    {
+        let n = row.len();
+        if n < BLOCK {
+            self.sum(row);
+            return;
+        }
+        for block in 0..n.div_ceil(BLOCK) {
+            let from = (block * BLOCK).min(n - BLOCK);
+            let start = self.start + from;
+            Taps { start, ..self }.sum_block(&mut row[from..from + BLOCK]);
+        }
     }
 }
 
-// The same for a block. Its sums are added up in an array of their own, which the compiler keeps in registers: sums in `block`
-// would go to memory and back with each weight.
-fn sum_block(block: &mut [f32], img: &[f32], start: usize, step: usize, weights: &[f32])
-    requires { (length block.old ≡ 32) × ((length weights.now - 1) * step + start + 32 ≤ length img.now) }
-    ensures { block.new ≡ sums weights.now (apart img.now start step) 32 (length weights.now) }
-{
-    let mut sums = [0.0; BLOCK];
-    sum_taps(&mut sums, img, start, step, weights);
-    block.copy_from_slice(&sums);
-}
-
-// The same for any number of sums, in blocks. The last block ends where the row ends. It may lie over a part of the block before
-// it, whose sums it makes again.
-fn sum_blocks(row: &mut [f32], img: &[f32], start: usize, step: usize, weights: &[f32])
-    requires { (length weights.now - 1) * step + start + length row.old ≤ length img.now }
-    ensures { row.new ≡ sums weights.now (apart img.now start step) (length row.old) (length weights.now) }
-{
-    let n = row.len();
-    if n < BLOCK {
-        sum_taps(row, img, start, step, weights);
-        return;
-    }
-    for block in 0..n.div_ceil(BLOCK) {
-        let from = (block * BLOCK).min(n - BLOCK);
-        sum_block(
-            &mut row[from..from + BLOCK],
-            img,
-            start + from,
-            step,
-            weights,
-        );
-    }
-}
-
-// The place that lies `r` before `p` in a line of `n`, or else the nearest one of the line.
+/// The place that lies `r` before `p` in a line of `n`, or else the nearest one of the line.
 fn repeated_place(n: usize, r: usize, p: usize) -> usize
     requires { 0 < n }
     ensures { result ≡ repeated n r p }
@@ -89,7 +96,7 @@ fn repeated_place(n: usize, r: usize, p: usize) -> usize
     p.saturating_sub(r).min(n - 1)
 }
 
-// Sample `x` of a row, blurred along the row. Beyond an end of the row the sample at that end is the tap.
+/// Sample `x` of a row, blurred along the row. Beyond an end of the row the sample at that end is the tap.
 fn blur_sample(samples: &[f32], x: usize, weights: &[f32]) -> f32
     requires { x < length samples.now }
     ensures { result ≡ along weights.now (length samples.now) (λ q. get_or samples.now q nan) x }
@@ -103,7 +110,7 @@ fn blur_sample(samples: &[f32], x: usize, weights: &[f32]) -> f32
     sum
 }
 
-// The samples of a row from `first` on, one at a time.
+/// The samples of a row from `first` on, one at a time.
 fn blur_samples(part: &mut [f32], samples: &[f32], first: usize, weights: &[f32])
     requires { first + length part.old ≤ length samples.now }
     ensures { part.new ≡ tabulate (length part.old) (λ i. along weights.now (length samples.now) (λ x. get_or samples.now x nan) (first + i)) }
@@ -113,7 +120,7 @@ fn blur_samples(part: &mut [f32], samples: &[f32], first: usize, weights: &[f32]
     }
 }
 
-// Blurs a row across: the samples near its ends one at a time, those between, which have all their taps in the row, in blocks.
+/// Blurs a row across: the samples near its ends one at a time, those between, which have all their taps in the row, in blocks.
 fn blur_row(row: &mut [f32], samples: &[f32], weights: &[f32])
     requires { (length samples.now ≡ length row.old) × (0 < length samples.now) }
     ensures { row.new ≡ tabulate (length row.old) (along weights.now (length row.old) (λ x. get_or samples.now x nan)) }
@@ -126,11 +133,17 @@ fn blur_row(row: &mut [f32], samples: &[f32], weights: &[f32])
     }
     let end = n - r;
     blur_samples(&mut row[0..r], samples, 0, weights);
-    sum_blocks(&mut row[r..end], samples, 0, 1, weights);
+    let taps = Taps {
+        img: samples,
+        start: 0,
+        step: 1,
+        weights,
+    };
+    taps.sum_blocks(&mut row[r..end]);
     blur_samples(&mut row[end..n], samples, end, weights);
 }
 
-/// "Across into a lent plane."
+/// "Across into a lent plane." Rows are cut out by their number: after a loop over `chunks_exact_mut` a proof knows no more than lengths.
 #[tactic(auto, using(lists::proofs::Rows::row_fits))]
 pub fn blur_across(img: &Plane, weights: &[f32], temp: &mut [f32])
     requires { length temp.old ≡ length img.now.samples.now }
@@ -143,7 +156,8 @@ pub fn blur_across(img: &Plane, weights: &[f32], temp: &mut [f32])
     }
 }
 
-// Blurs row `y` of a plane down, one weight at a time over the whole row. Beyond an edge the row at that edge has the taps.
+/// Blurs row `y` of a plane down, one weight at a time over the whole row. Beyond an edge the row at that edge has the taps: so these
+/// need not lie one step apart, as those of `Taps::sum` do.
 #[tactic(auto, using(lists::proofs::Rows::row_fits))]
 fn sum_rows(row: &mut [f32], img: &Plane, y: usize, weights: &[f32])
     requires { (length row.old ≡ img.now.shape.width) × (y < img.now.shape.height) }
@@ -157,7 +171,8 @@ fn sum_rows(row: &mut [f32], img: &Plane, y: usize, weights: &[f32])
     }
 }
 
-// Blurs row `y` of a plane down, each sample along its column: in blocks, unless the row is near an edge.
+/// Blurs row `y` of a plane down, each sample along its column: in blocks, unless the row is near an edge. Down, the whole row is near
+/// an edge or is not; across, each row has samples of both kinds, which is why `blur_row` goes about it differently.
 #[tactic(auto, using(lists::proofs::Rows::row_fits))]
 fn blur_row_down(row: &mut [f32], img: &Plane, y: usize, weights: &[f32])
     requires { (length row.old ≡ img.now.shape.width) × (y < img.now.shape.height) }
@@ -166,13 +181,20 @@ fn blur_row_down(row: &mut [f32], img: &Plane, y: usize, weights: &[f32])
     let width = img.shape.width;
     let r = weights.len() / 2;
     if r <= y && r < img.shape.height - y {
-        sum_blocks(row, img.samples, (y - r) * width, width, weights);
+        let taps = Taps {
+            img: img.samples,
+            start: (y - r) * width,
+            step: width,
+            weights,
+        };
+        taps.sum_blocks(row);
     } else {
         sum_rows(row, img, y, weights);
     }
 }
 
-/// "Then down."
+/// "Then down." A loop of its own, and not one with that of `blur_across`: a closure for what each row is given would add more than
+/// the five lines that it saves.
 #[tactic(auto, using(lists::proofs::Rows::row_fits))]
 pub fn blur_down(img: &Plane, weights: &[f32], out: &mut [f32])
     requires { length out.old ≡ length img.now.samples.now }

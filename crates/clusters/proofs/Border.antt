@@ -6,8 +6,8 @@ use Prim.Native.Nat.{ℕ, ◌+◌, ◌*◌, ◌<◌}
 use native.Mathlib.Omega.{arith}
 use lib.Dec.{eqb}
 use borrow.Author.Tests.{eq-eqb, ne_eqb}
-use Rattle.lists.proofs.Bools.{or_neither}
-use Rattle.lists.proofs.Grid.{row_of, column_of_lem}
+use Rattle.std.proofs.lemmas.Bool.{or_from}
+use Rattle.std.proofs.lemmas.Nat.{div-mul-add, mod-mul-add}
 use Rattle.clusters.specs.Clusters.{border}
 
 module _ (w h r c i : ℕ) (at : i ≡ r * w + c) (col : c < w) where
@@ -16,7 +16,7 @@ module _ (w h r c i : ℕ) (at : i ≡ r * w + c) (col : c < w) where
 
   there : border w h i ≡ here
   unfolding border
-  there = rw (at, row_of w r c col, column_of_lem w r c col)
+  there = rw (at, div-mul-add r w c col, mod-mul-add r w c col)
 
   pub top_row : r ≡ 0 → border w h i ≡ true
   top_row e = there ∙ or_inl _ _ (or_inl _ _ (or_inl _ _ (eq-eqb r 0 e)))
@@ -32,4 +32,4 @@ module _ (w h r c i : ℕ) (at : i ≡ r * w + c) (col : c < w) where
 
   pub off_border : 0 < r → r + 1 < h → 0 < c → c + 1 < w → border w h i ≡ false
   off_border a b d e =
-      there ∙ or_neither _ _ (or_neither _ _ (or_neither _ _ (ne_eqb r 0 (λ q. omega arith)) (ne_eqb (r + 1) h (λ q. omega arith))) (ne_eqb c 0 (λ q. omega arith))) (ne_eqb (c + 1) w (λ q. omega arith))
+      there ∙ or_from _ _ (or_from _ _ (or_from _ _ (ne_eqb r 0 (λ q. omega arith)) (ne_eqb (r + 1) h (λ q. omega arith))) (ne_eqb c 0 (λ q. omega arith))) (ne_eqb (c + 1) w (λ q. omega arith))

@@ -4,7 +4,7 @@ use mathlib.Core.Bool.{Bool, false, ◌||◌}
 use Prim.Native.Nat.{ℕ, ◌^◌, ◌<◌}
 use lib.Dec.{leb, eqb}
 use borrow.Author.Tests.{leb-false}
-use Rattle.lists.proofs.Bools.{or_left, or_right}
+use Rattle.std.proofs.lemmas.Bool.{or_parts}
 use Rattle.clusters.specs.Center.{bad_center}
 
 pub record Small (sum_x sum_y count : ℕ) : Type 0 where
@@ -18,10 +18,10 @@ good_center sum_x sum_y count e =
     let a : Bool = leb (2 ^ 24) sum_x in
     let b : Bool = leb (2 ^ 24) sum_y in
     let c : Bool = leb (2 ^ 24) count in
-    let q = or_left (a || b || c) (eqb count 0) e in
-    let r = or_left (a || b) c q in
+    let q = (or_parts (a || b || c) (eqb count 0) e).0 in
+    let r = (or_parts (a || b) c q).0 in
     record {
-      x = leb-false (2 ^ 24) sum_x (or_left a b r);
-      y = leb-false (2 ^ 24) sum_y (or_right a b r);
-      n = leb-false (2 ^ 24) count (or_right (a || b) c q);
+      x = leb-false (2 ^ 24) sum_x (or_parts a b r).0;
+      y = leb-false (2 ^ 24) sum_y (or_parts a b r).1;
+      n = leb-false (2 ^ 24) count (or_parts (a || b) c q).1;
     }

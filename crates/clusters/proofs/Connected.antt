@@ -9,7 +9,8 @@ use native.Mathlib.Decide.{dec_lt}
 use native.Mathlib.Omega.{arith}
 use lib.ListN.{length, get_or-eq_default}
 use lib.Ieee.{Float, nan, lt}
-use Rattle.lists.proofs.Bools.{and_parts, same_test, test}
+use Rattle.std.proofs.lemmas.Bool.{and_parts, cases_Bool}
+use Rattle.std.specs.Cmp.{both_ways}
 use Rattle.clusters.specs.Connected.{below, connected}
 use Rattle.clusters.proofs.Joined.{Joined, Joined-trans, Joined-sym, reach_joined, Joined-reach}
 
@@ -38,12 +39,12 @@ module _ (t : Float) (w : ℕ) (pos : 0 < w) (plane : List Float) where
   same_or_apart s r =
       ⊎_elim
       (λ h. let j = connected_joined s r h in
-      inl (λ i. same_test (C s i) (C r i)
+      inl (λ i. both_ways (C s i) (C r i)
       (λ a. joined_connected r i (Joined-trans (Joined-sym j) (connected_joined s i a)))
       (λ a. joined_connected s i (Joined-trans j (connected_joined r i a)))))
       (λ h. inr (λ i. ⊎_elim
       (λ b. let q = and_parts (C s i) (C r i) b in
       absurd (true≢false (sym (joined_connected s r (Joined-trans (connected_joined s i q.0) (Joined-sym (connected_joined r i q.1)))) ∙ h)))
       (λ b. b)
-      (test (C s i && C r i))))
-      (test (C s r))
+      (cases_Bool (C s i && C r i))))
+      (cases_Bool (C s r))

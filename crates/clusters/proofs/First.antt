@@ -9,7 +9,7 @@ use native.Mathlib.Nat.{not-suc-le-zero}
 use native.Mathlib.Decide.{dec_lt}
 use native.Mathlib.Omega.{arith}
 use lib.Ieee.{Float}
-use Rattle.lists.proofs.Bools.{and_parts, test}
+use Rattle.std.proofs.lemmas.Bool.{and_parts, cases_Bool}
 use Rattle.lists.proofs.Each.{any_found, any_from}
 use Rattle.clusters.specs.Connected.{below, connected}
 use Rattle.clusters.specs.Clusters.{border, seed, clustered, first}
@@ -54,7 +54,7 @@ module _ (t : Float) (w h : ℕ) (pos : 0 < w) (plane : List Float) where
       let e = and_parts (seed t w h plane q.0) (C q.0 s) q.2 in
       inr (q.0, q.1, e.0, e.1))
       (λ c. inl (and_intro d (ap not c)))
-      (test (clustered t w h plane s s))
+      (cases_Bool (clustered t w h plane s s))
 
   abbrev Found : ℕ → Type 0
   Found s = (f : ℕ) × (first t w h plane f ≡ true) × (C f s ≡ true)

@@ -13,7 +13,9 @@ use lib.Seq.{ext_get_or}
 use lib.Ieee.{Float, nan, lt}
 use Rattle.lists.specs.Each.{any}
 use Rattle.lists.specs.Tab.{tabulate}
-use Rattle.lists.proofs.Bools.{and_parts, and_not_left, and_not_right, or_cases, same_test, test, overlay}
+use Rattle.std.proofs.lemmas.Bool.{and_parts, and_left, and_right, or_cases, cases_Bool}
+use Rattle.std.specs.Cmp.{both_ways}
+use Rattle.lists.proofs.Bools.{overlay}
 use Rattle.lists.proofs.Each.{any_found, any_from}
 use Rattle.lists.proofs.Tab.{length-tabulate, get_or-tabulate}
 use Rattle.clusters.specs.declared.Row.{Row}
@@ -62,7 +64,7 @@ module _ (t : Float) (w h : ℕ) (pos : 0 < w) (plane : List Float) (big : lt ma
       let b : i < N = subst (λ (n : ℕ). i < n) (length-marked k) (below_inside t (M k) i l) in
       let v : (x : Bool) → CL k i ≡ x → lt (cond x max_f32 (get_or plane i nan)) t ≡ true = λ x c.
       ap (λ (v : Float). lt v t) (sym (get_or-marked k i b ∙ ap (λ (y : Bool). cond y max_f32 (get_or plane i nan)) c)) ∙ l in
-      ⊎_elim (λ c. absurd (false≢true (sym big ∙ v true c))) (λ c. (v false c, c)) (test (CL k i))
+      ⊎_elim (λ c. absurd (false≢true (sym big ∙ v true c))) (λ c. (v false c, c)) (cases_Bool (CL k i))
 
   -- ---- rows
 
@@ -83,8 +85,8 @@ module _ (t : Float) (w h : ℕ) (pos : 0 < w) (plane : List Float) (big : lt ma
 
   not-seed : (k : ℕ) → (border w h k ≡ true) ⊎ (below t plane k ≡ false) → seed t w h plane k ≡ false
   unfolding seed
-  not-seed k (inl e) = and_not_left _ _ (ap not e)
-  not-seed k (inr e) = and_not_right (not (border w h k)) (below t plane k) e
+  not-seed k (inl e) = and_left _ _ (ap not e)
+  not-seed k (inr e) = and_right (not (border w h k)) (below t plane k) e
 
   first_is : (k : ℕ) → seed t w h plane k ≡ true → CL k k ≡ false → first t w h plane k ≡ true
   unfolding first
@@ -92,8 +94,8 @@ module _ (t : Float) (w h : ℕ) (pos : 0 < w) (plane : List Float) (big : lt ma
 
   not-first : (k : ℕ) → (seed t w h plane k ≡ false) ⊎ (CL k k ≡ true) → first t w h plane k ≡ false
   unfolding first
-  not-first k (inl d) = and_not_left _ _ d
-  not-first k (inr c) = and_not_right (seed t w h plane k) (not (CL k k)) (ap not c)
+  not-first k (inl d) = and_left _ _ d
+  not-first k (inr c) = and_right (seed t w h plane k) (not (CL k k)) (ap not c)
 
   clustered_found : (k s i : ℕ) → s < k → seed t w h plane s ≡ true → connected t w plane s i ≡ true → CL k i ≡ true
   unfolding clustered
@@ -120,14 +122,14 @@ module _ (t : Float) (w h : ℕ) (pos : 0 < w) (plane : List Float) (big : lt ma
 
   module _ (k : ℕ) (c : CL k k ≡ false) where
     free : (i : ℕ) → J k i → CL k i ≡ false
-    free i j = ⊎_elim (λ x. absurd (true≢false (sym (spreads k i k x (Joined-sym j)) ∙ c))) (λ x. x) (test (CL k i))
+    free i j = ⊎_elim (λ x. absurd (true≢false (sym (spreads k i k x (Joined-sym j)) ∙ c))) (λ x. x) (cases_Bool (CL k i))
 
     keep : {i : ℕ} → J k i → Joined w (below t (M k)) k i
     keep (here e) = here (stays_low k k e c)
     keep (step {p} {i} y b e) = step (keep y) b (stays_low k i e (free i (step y b e)))
 
     same_connected : (i : ℕ) → connected t w (M k) k i ≡ connected t w plane k i
-    same_connected i = same_test (connected t w (M k) k i) (connected t w plane k i)
+    same_connected i = both_ways (connected t w (M k) k i) (connected t w plane k i)
         (λ a. joined_connected t w pos plane k i (Joined-more (λ j e. (was_low k j e).0) (connected_joined t w pos (M k) k i a)))
         (λ a. joined_connected t w pos (M k) k i (keep (connected_joined t w pos plane k i a)))
 
@@ -163,7 +165,7 @@ module _ (t : Float) (w h : ℕ) (pos : 0 < w) (plane : List Float) (big : lt ma
 
     -- its cluster is known already
     known : (k : ℕ) → CL k k ≡ true → F k ≡ F (suc k)
-    known k c = nothing k (not-first k (inr c)) (λ i. clustered_more k i ∙ same_test (CL k i || (seed t w h plane k && connected t w plane k i)) (CL k i)
+    known k c = nothing k (not-first k (inr c)) (λ i. clustered_more k i ∙ both_ways (CL k i || (seed t w h plane k && connected t w plane k i)) (CL k i)
         (λ a. ⊎_elim (λ x. x) (λ x. spreads k k i c (connected_joined t w pos plane k i (and_parts (seed t w h plane k) (connected t w plane k i) x).1)) (or_cases (CL k i) _ a))
         (λ a. or_inl (CL k i) _ a))
 
@@ -171,8 +173,8 @@ module _ (t : Float) (w h : ℕ) (pos : 0 < w) (plane : List Float) (big : lt ma
     skip k (inl e) = no_seed k (not-seed k (inl e))
     skip k (inr e) = ⊎_elim
         (λ c. known k c)
-        (λ c. ⊎_elim (λ l. absurd (true≢false (sym (stays_low k k l c) ∙ e))) (λ l. no_seed k (not-seed k (inr l))) (test (below t plane k)))
-        (test (CL k k))
+        (λ c. ⊎_elim (λ l. absurd (true≢false (sym (stays_low k k l c) ∙ e))) (λ l. no_seed k (not-seed k (inr l))) (cases_Bool (below t plane k)))
+        (cases_Bool (CL k k))
 
     -- a new cluster
     module _ (k : ℕ) (e : border w h k ≡ false) (l : below t (M k) k ≡ true) where

@@ -11,7 +11,7 @@ use lib.Dec.{eqb}
 use borrow.Author.Tests.{eqb-true, eq-eqb, not-true}
 use Rattle.lists.specs.Each.{any}
 use Rattle.lists.specs.Sum.{sum}
-use Rattle.lists.proofs.Bools.{and_parts, or_cases, test, same?}
+use Rattle.std.proofs.lemmas.Bool.{and_parts, or_cases, cases_Bool, cases_eq}
 use Rattle.lists.proofs.Each.{any_found, any_from}
 use Rattle.lists.proofs.Sum.{sum-le, sum_most}
 use Rattle.clusters.specs.Connected.{beside, reach}
@@ -72,7 +72,7 @@ module _ (m m' : ℕ → Bool) (more : (i : ℕ) → m i ≡ true → m' i ≡ t
       let b : one (m' n) ≡ 1 = ap (λ (x : ℕ). one (m' x)) e ∙ ap one into in
       omega (arith, sum-le n (λ i. one (m i)) (λ i. one (m' i)) (λ i. one-le (m i) (m' i) (more i))))
       (λ e. omega (arith, size_grows n (omega arith), one-le (m n) (m' n) (more n)))
-      (same? n p)
+      (cases_eq n p)
 
 -- ---- `reach`
 
@@ -155,8 +155,8 @@ module _ (w : ℕ) (pos : 0 < w) (set : ℕ → Bool) (s : ℕ) where
         (λ a. inl (λ i h. ⊎_elim
         (λ t. t)
         (λ t. absurd (true≢false (sym (any_found n i (λ i. R (suc k) i && not (R k i)) (inside i (reach_last k i h).0) (and_intro h (ap not t))) ∙ a)))
-        (test (R k i))))
-        (test (any n (λ i. R (suc k) i && not (R k i))))
+        (cases_Bool (R k i))))
+        (cases_Bool (any n (λ i. R (suc k) i && not (R k i))))
 
     counted : set s ≡ true → (k : ℕ) → ((j : ℕ) × (j ≤ k) × Ended j) ⊎ (k < size (R k) n)
     counted e zero = inr (lt_of_member (R zero) s (reach_here e zero) n (inside s e))

@@ -11,7 +11,7 @@ use lib.Pow.{pow_pos, pow_mono, pow-add}
 use lib.Ieee.{Float, nan, inf, fin, binary32, fits, of_bits, lt, up, down}
 use lib.Ieee.Scale.{finite}
 use borrow.Author.Tests.{ltb-true, le-ltb}
-use Rattle.lists.proofs.Bools.{and_parts}
+use Rattle.std.proofs.lemmas.Bool.{and_parts}
 use Rattle.clusters.specs.Clusters.{max_f32}
 
 -- the largest f32 is m × 2^104, m being the greatest number of 24 binary digits

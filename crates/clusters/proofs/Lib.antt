@@ -6,7 +6,7 @@ pub mod First
 pub mod Stack
 pub mod Around
 pub mod Walk
-pub mod Passed
+pub mod Search
 pub mod Rows
 pub mod Border
 pub mod Found

@@ -8,7 +8,7 @@ use native.Mathlib.Nat.{not-suc-le-zero}
 use native.Mathlib.Omega.{arith}
 use lib.ListN.{length}
 use Rattle.lists.specs.Sum.{sum}
-use Rattle.lists.proofs.Bools.{same?}
+use Rattle.std.proofs.lemmas.Bool.{cases_eq}
 use Rattle.lists.proofs.Sum.{sum_ext, sum_most, sum_none}
 
 -- the sum of f over the places of a list
@@ -62,4 +62,4 @@ module _ (m m' : ℕ → Bool) (f : ℕ → ℕ) (p : ℕ) (out : m p ≡ false)
       ⊎_elim
       (λ e. simp (e, out, into, same_before p (omega arith)) (omega arith))
       (λ e. others_more n e (set_sum_more n (omega arith)))
-      (same? n p)
+      (cases_eq n p)

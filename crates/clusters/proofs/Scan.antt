@@ -63,11 +63,11 @@ module _ (t : Float) (shape : Shape) (pos : 0 < shape.width) (big : lt max_f32 t
 
     -- to the next sample to find, and over its cluster
     module _ (f : Found) (a i : ℕ) (onward : a ≤ i) (none : NoneBelow t f.plane a i) (off : start < i) (in_row : i < end) (low : below t f.plane i ≡ true)
-        (p : List Float) (rs : List ℕ) (row : Row) (ep : p ≡ erased t w f.plane i) (er : row ≡ row_of t w f.plane i) (es : rs ≡ put f.rows f.total row) where
-      pub row_goes_on : Onward t shape a f (i + 1) (record { plane = p; rows = rs; total = f.total + 1 })
-      row_goes_on = Onward-trans
+        (p : List Float) (rs : List ℕ) (n : ℕ) (row : Row) (ep : p ≡ erased t w f.plane i) (er : row ≡ row_of t w f.plane i) (es : rs ≡ put f.rows f.total row) (en : n ≡ f.total + 1) where
+      pub row_goes_on : Onward t shape a f (i + 1) (record { plane = p; rows = rs; total = n })
+      row_goes_on = subst (λ (m : ℕ). Onward t shape a f (i + 1) (record { plane = p; rows = rs; total = m })) (sym en) (Onward-trans
           (Onward-skip f a i onward (λ k x y. inr (none k x y)))
-          (Onward-new f i (off_border w h r (i - start) i (omega arith) (omega arith) above under (omega arith) (omega arith)) low p rs row ep er es)
+          (Onward-new f i (off_border w h r (i - start) i (omega arith) (omega arith) above under (omega arith) (omega arith)) low p rs row ep er es))
 
     -- to the next row's start
     pub row_ends : (f : Found) (a : ℕ) → a ≤ start + w → NoneBelow t f.plane a end → Onward t shape a f ((r + 1) * w) f

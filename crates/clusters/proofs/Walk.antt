@@ -11,16 +11,19 @@ use native.Mathlib.Nat.{mod-lt, div-le_self, mul-one}
 use native.Mathlib.Omega.{arith}
 use lib.ListN.{length, get_or, take, set, length-set}
 use lib.Seq.{get_or-set_same, get_or-set_other, ext_get_or}
+use lib.Dec.{ltb, leb}
 use lib.Ieee.{Float, nan, lt}
-use Rattle.lists.proofs.Bools.{and_parts, and_not_left, and_not_right, same_test, test, same?}
+use Rattle.std.proofs.lemmas.List.{take_more_set}
+use Rattle.std.proofs.lemmas.Bool.{and_parts, and_left, and_right, cases_Bool, cases_eq}
+use Rattle.std.specs.Cmp.{both_ways}
 use Rattle.lists.proofs.Tab.{length-tabulate, get_or-tabulate}
 use Rattle.clusters.specs.Connected.{below, connected}
 use Rattle.clusters.specs.Clusters.{max_f32, row_of}
-use Rattle.clusters.specs.Walk.{Walk, walk, claimed, left_of, right_of, above_of, under_of, claimed_around, erased}
+use Rattle.clusters.specs.Walk.{Walk, walk, claimed, claimed_if, claimed_beside, erased}
 use Rattle.clusters.proofs.Members.{list_sum, list_sum_more, list_sum_ones, set_sum, set_sum_none, set_sum_same, set_sum-le, set_sum_more}
-use Rattle.clusters.proofs.Neighbours.{Beside}
-use Rattle.clusters.proofs.Stack.{pushed, popped}
-use Rattle.clusters.proofs.Around.{Near, Near-left, Near-right, Near-above, Near-under, one_of_four}
+use Rattle.clusters.proofs.Neighbours.{Beside, down}
+use Rattle.clusters.proofs.Stack.{popped}
+use Rattle.clusters.proofs.Around.{is_left, is_right, is_above, one_of_four}
 use Rattle.clusters.proofs.Joined.{Joined, here, step}
 use Rattle.clusters.proofs.Connected.{below_inside, connected_joined, joined_connected}
 
@@ -42,7 +45,7 @@ module _ (t : Float) (q : ℕ) (v : Walk) where
 pub claim_low : (t : Float) (q : ℕ) (plane : List Float) (pending : ℕ) (worklist : List ℕ) → pending < length worklist → below t plane q ≡ true
     → walk (set plane q max_f32) (pending + 1) (set worklist pending q) ≡ claimed t q (walk plane pending worklist)
 claim_low t q plane pending worklist h e =
-    ap (λ (l : List ℕ). record { plane = set plane q max_f32; waiting = l }) (pushed worklist pending q h) ∙ claimed_low t q (walk plane pending worklist) e
+    ap (λ (l : List ℕ). record { plane = set plane q max_f32; waiting = l }) (take_more_set worklist pending q h) ∙ claimed_low t q (walk plane pending worklist) e
 
 module _ (t : Float) (q : ℕ) (v : Walk) (big : lt max_f32 t ≡ false) where
   -- afterwards the sample is not below the threshold
@@ -51,26 +54,37 @@ module _ (t : Float) (q : ℕ) (v : Walk) (big : lt max_f32 t ≡ false) where
       (λ e. let h = below_inside t (set v.plane q max_f32) q e in
       ap (λ (x : Float). lt x t) (get_or-set_same v.plane q max_f32 nan (rw length-set at h)) ∙ big)
       (λ e. e)
-      (test (below t (set v.plane q max_f32) q))
+      (cases_Bool (below t (set v.plane q max_f32) q))
 
   set_stays : (i : ℕ) → below t v.plane i ≡ false → below t (set v.plane q max_f32) i ≡ false
   set_stays i h = ⊎_elim
       (λ e. rw e set_high)
       (λ e. ap (λ (x : Float). lt x t) (get_or-set_other v.plane q i max_f32 nan e) ∙ h)
-      (same? i q)
+      (cases_eq i q)
 
   claim_high : below t (claimed t q v).plane q ≡ false
   claim_high = ⊎_elim
       (λ e. subst (λ (k : Walk). below t k.plane q ≡ false) (claimed_low t q v e) set_high)
       (λ e. subst (λ (k : Walk). below t k.plane q ≡ false) (claimed_high t q v e) e)
-      (test (below t v.plane q))
+      (cases_Bool (below t v.plane q))
 
   -- and no sample comes to be below it
   claim_stays : (i : ℕ) → below t v.plane i ≡ false → below t (claimed t q v).plane i ≡ false
   claim_stays i h = ⊎_elim
       (λ e. subst (λ (k : Walk). below t k.plane i ≡ false) (claimed_low t q v e) (set_stays i h))
       (λ e. subst (λ (k : Walk). below t k.plane i ≡ false) (claimed_high t q v e) h)
-      (test (below t v.plane q))
+      (cases_Bool (below t v.plane q))
+
+  -- the same of a neighbour that may lie outside the plane
+  if_high : (b : Bool) → b ≡ true → below t (claimed_if t b q v).plane q ≡ false
+  unfolding claimed_if
+  if_high true e = claim_high
+  if_high false e = absurd (false≢true e)
+
+  if_stays : (b : Bool) (i : ℕ) → below t v.plane i ≡ false → below t (claimed_if t b q v).plane i ≡ false
+  unfolding claimed_if
+  if_stays true i h = claim_stays i h
+  if_stays false i h = h
 
 -- ---- the walk
 
@@ -103,7 +117,7 @@ module _ (t : Float) (w : ℕ) (plane₀ : List Float) (s : ℕ) where
     pub counted : Sum v (λ _. 1) count
 
   not-marked : (v : Walk) (i : ℕ) → below t v.plane i ≡ true → marked v i ≡ false
-  not-marked v i e = and_not_right (below t plane₀ i) (not (below t v.plane i)) (ap not e)
+  not-marked v i e = and_right (below t plane₀ i) (not (below t v.plane i)) (ap not e)
 
   -- what is below the threshold was so from the start
   was_low : (v : Walk) (i : ℕ) → get_or v.plane i nan ≡ cond (marked v i) max_f32 (get_or plane₀ i nan) → below t v.plane i ≡ true → below t plane₀ i ≡ true
@@ -115,7 +129,7 @@ module _ (t : Float) (w : ℕ) (plane₀ : List Float) (s : ℕ) where
   origin = record { plane = plane₀; waiting = [] }
 
   none_marked : (i : ℕ) → marked origin i ≡ false
-  none_marked i = ⊎_elim (λ e. not-marked origin i e) (λ e. and_not_left _ _ e) (test (below t plane₀ i))
+  none_marked i = ⊎_elim (λ e. not-marked origin i e) (λ e. and_left _ _ e) (cases_Bool (below t plane₀ i))
 
   no_sum : (f : ℕ → ℕ) → Sum origin f 0
   unfolding list_sum
@@ -151,17 +165,17 @@ module _ (t : Float) (w : ℕ) (plane₀ : List Float) (s : ℕ) where
       others i e = ap (λ (k : Float). below t plane₀ i && not (lt k t)) (get_or-set_other v.plane q i max_f32 nan e)
 
       stays : (i : ℕ) → marked v i ≡ true → marked v' i ≡ true
-      stays i m = ⊎_elim (λ e. rw e mark) (λ e. others i e ∙ m) (same? i q)
+      stays i m = ⊎_elim (λ e. rw e mark) (λ e. others i e ∙ m) (cases_eq i q)
 
       was : (i : ℕ) → marked v' i ≡ true → (i ≡ q) ⊎ (marked v i ≡ true)
-      was i m = ⊎_elim (λ e. inl e) (λ e. inr (sym (others i e) ∙ m)) (same? i q)
+      was i m = ⊎_elim (λ e. inl e) (λ e. inr (sym (others i e) ∙ m)) (cases_eq i q)
 
       values' : (i : ℕ) → get_or v'.plane i nan ≡ cond (marked v' i) max_f32 (get_or plane₀ i nan)
       values' i =
           ⊎_elim
           (λ e. rw e (get_or-set_same v.plane q max_f32 nan inside ∙ sym (ap (λ (b : Bool). cond b max_f32 (get_or plane₀ q nan)) mark)))
           (λ e. get_or-set_other v.plane q i max_f32 nan e ∙ S.values i ∙ sym (ap (λ (b : Bool). cond b max_f32 (get_or plane₀ i nan)) (others i e)))
-          (same? i q)
+          (cases_eq i q)
 
       sums : (f : ℕ → ℕ) (z : ℕ) → Sum v f z → Sum v' f z
       sums f z e =
@@ -191,7 +205,7 @@ module _ (t : Float) (w : ℕ) (plane₀ : List Float) (s : ℕ) where
         ⊎_elim
         (λ e. subst (λ (k : Walk). State held k x y count) (claimed_low t q v e) (claimed_one e (j e)))
         (λ e. subst (λ (k : Walk). State held k x y count) (claimed_high t q v e) S)
-        (test (below t v.plane q))
+        (cases_Bool (below t v.plane q))
 
   -- the seed is claimed
   pub State-begun : lt max_f32 t ≡ false → (v : Walk) → v ≡ claimed t s origin → State [] v 0 0 0 × (below t v.plane s ≡ false)
@@ -231,11 +245,10 @@ module _ (t : Float) (w : ℕ) (plane₀ : List Float) (s : ℕ) where
     }
 
   module _ (big : lt max_f32 t ≡ false) (v : Walk) (p x y count : ℕ) (S : State (p ∷ []) v x y count) where
-    State-near : (q : ℕ) → Near w p q → State (p ∷ []) (claimed t q v) x y count
-    State-near q near = State-claim big (p ∷ []) v x y count q S (λ low. ⊎_elim
-        (λ b. step (S.joined p (S.holds p (Memᴰ.head refl))) b (was_low v q (S.values q) low))
-        (λ e. absurd (false≢true (sym (not-marked v q low) ∙ rw e (S.holds p (Memᴰ.head refl)))))
-        near)
+    State-if : (b : Bool) (q : ℕ) → (b ≡ true → Beside w p q) → State (p ∷ []) (claimed_if t b q v) x y count
+    unfolding claimed_if
+    State-if true q near = State-claim big (p ∷ []) v x y count q S (λ low. step (S.joined p (S.holds p (Memᴰ.head refl))) (near refl) (was_low v q (S.values q) low))
+    State-if false q near = S
 
     State-close : ((i : ℕ) → i < N → Beside w p i → below t v.plane i ≡ false) → State [] v x y count
     State-close high = record {
@@ -267,39 +280,51 @@ module _ (t : Float) (w : ℕ) (plane₀ : List Float) (s : ℕ) where
     abbrev v₀ : Walk
     v₀ = record { plane = plane; waiting = rest }
 
+    abbrev left : Bool
+    left = ltb 0 (p % w)
+
+    abbrev right : Bool
+    right = ltb (p % w + 1) w
+
+    abbrev above : Bool
+    above = leb w p
+
+    abbrev under : Bool
+    under = ltb (p + w) N
+
     abbrev v₁ : Walk
-    v₁ = claimed t (left_of w p) v₀
+    v₁ = claimed_if t left (p - 1) v₀
 
     abbrev v₂ : Walk
-    v₂ = claimed t (right_of w p) v₁
+    v₂ = claimed_if t right (p + 1) v₁
 
     abbrev v₃ : Walk
-    v₃ = claimed t (above_of w p) v₂
+    v₃ = claimed_if t above (p - w) v₂
 
     abbrev v₄ : Walk
-    v₄ = claimed t (under_of w N p) v₃
+    v₄ = claimed_if t under (p + w) v₃
 
     all_claimed : State (p ∷ []) v₄ X Y K
     all_claimed =
-        let s₁ = State-near big v₀ p X Y K (State-pop plane rest p x y count S) (left_of w p) (Near-left w N p pos) in
-        let s₂ = State-near big v₁ p X Y K s₁ (right_of w p) (Near-right w N p pos) in
-        let s₃ = State-near big v₂ p X Y K s₂ (above_of w p) (Near-above w N p pos) in
-        State-near big v₃ p X Y K s₃ (under_of w N p) (Near-under w N p pos)
+        let s₁ = State-if big v₀ p X Y K (State-pop plane rest p x y count S) left (p - 1) (is_left w p pos) in
+        let s₂ = State-if big v₁ p X Y K s₁ right (p + 1) (is_right w p pos) in
+        let s₃ = State-if big v₂ p X Y K s₂ above (p - w) (is_above w p pos) in
+        State-if big v₃ p X Y K s₃ under (p + w) (λ _. down refl)
 
     none_left : (i : ℕ) → i < N → Beside w p i → below t v₄.plane i ≡ false
-    none_left = one_of_four w N p pos (λ i. below t v₄.plane i ≡ false)
-        (claim_stays t (under_of w N p) v₃ big _ (claim_stays t (above_of w p) v₂ big _ (claim_stays t (right_of w p) v₁ big _ (claim_high t (left_of w p) v₀ big))))
-        (claim_stays t (under_of w N p) v₃ big _ (claim_stays t (above_of w p) v₂ big _ (claim_high t (right_of w p) v₁ big)))
-        (claim_stays t (under_of w N p) v₃ big _ (claim_high t (above_of w p) v₂ big))
-        (claim_high t (under_of w N p) v₃ big)
+    none_left = one_of_four w p pos N (λ i. below t v₄.plane i ≡ false)
+        (λ b. if_stays t (p + w) v₃ big under _ (if_stays t (p - w) v₂ big above _ (if_stays t (p + 1) v₁ big right _ (if_high t (p - 1) v₀ big left b))))
+        (λ b. if_stays t (p + w) v₃ big under _ (if_stays t (p - w) v₂ big above _ (if_high t (p + 1) v₁ big right b)))
+        (λ b. if_stays t (p + w) v₃ big under _ (if_high t (p - w) v₂ big above b))
+        (λ b. if_high t (p + w) v₃ big under b)
 
-    State-turn : State [] (claimed_around t w N p v₀) X Y K
+    State-turn : State [] (claimed_beside t w N p v₀) X Y K
     State-turn = State-close big v₄ p X Y K all_claimed none_left
 
     -- what is not below the threshold stays so
-    turn_stays : (i : ℕ) → below t plane i ≡ false → below t (claimed_around t w N p v₀).plane i ≡ false
+    turn_stays : (i : ℕ) → below t plane i ≡ false → below t (claimed_beside t w N p v₀).plane i ≡ false
     turn_stays i h =
-        claim_stays t (under_of w N p) v₃ big i (claim_stays t (above_of w p) v₂ big i (claim_stays t (right_of w p) v₁ big i (claim_stays t (left_of w p) v₀ big i h)))
+        if_stays t (p + w) v₃ big under i (if_stays t (p - w) v₂ big above i (if_stays t (p + 1) v₁ big right i (if_stays t (p - 1) v₀ big left i h)))
 
   -- the same of the worklist, from whose end samples are taken up
   module _ (mat : List Float) (worklist : List ℕ) (pending x y count : ℕ) (S : State [] (walk mat pending worklist) x y count)
@@ -316,11 +341,11 @@ module _ (t : Float) (w : ℕ) (plane₀ : List Float) (s : ℕ) where
     pub walk_inside : p < N
     walk_inside = top_inside mat rest p x y count apart
 
-    pub walk_turn : lt max_f32 t ≡ false → 0 < w → below t mat s ≡ false → (v : Walk) → v ≡ claimed_around t w (length mat) p (walk mat (pending - 1) worklist)
+    pub walk_turn : lt max_f32 t ≡ false → 0 < w → below t mat s ≡ false → (v : Walk) → v ≡ claimed_beside t w (length mat) p (walk mat (pending - 1) worklist)
         → State [] v (x + p % w) (y + p / w) (count + 1) × (below t v.plane s ≡ false)
     walk_turn big pos seed v e =
         subst (λ (k : Walk). State [] k (x + p % w) (y + p / w) (count + 1) × (below t k.plane s ≡ false))
-        (sym (e ∙ ap (λ (n : ℕ). claimed_around t w n p (walk mat (pending - 1) worklist)) S.long))
+        (sym (e ∙ ap (λ (n : ℕ). claimed_beside t w n p (walk mat (pending - 1) worklist)) S.long))
         (State-turn big pos mat rest p x y count apart, turn_stays big pos mat rest p x y count apart s seed)
 
   -- ---- nothing waits any more
@@ -335,7 +360,7 @@ module _ (t : Float) (w : ℕ) (plane₀ : List Float) (s : ℕ) where
       all_marked (step {p} {i} j b e) = ⊎_elim (λ k. absurd (Memᴰ.not-nil k)) (⊎_elim (λ k. absurd (Memᴰ.not-nil k)) (λ c. c i b e)) (S.closed p (all_marked j))
 
       found : (i : ℕ) → marked end i ≡ connected t w plane₀ s i
-      found i = same_test (marked end i) (connected t w plane₀ s i)
+      found i = both_ways (marked end i) (connected t w plane₀ s i)
           (λ m. joined_connected t w pos plane₀ s i (S.joined i m))
           (λ c. all_marked (connected_joined t w pos plane₀ s i c))
 

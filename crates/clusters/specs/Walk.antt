@@ -1,6 +1,6 @@
 -- What the steps of the scan and of the walk do, for the contracts of the functions that make them. No public contract cites
 -- these. Assumes nothing.
-use Rattle.std.specs.Prelude.{ℕ, ◌+◌, ◌-◌, ◌*◌, ◌%◌, ◌≤◌, ◌<◌, ◌≡◌, false, cond, List, [], ◌∷◌, ◌++◌, leb, ltb, length, get_or, take, set, Float}
+use Rattle.std.specs.Prelude.{ℕ, ◌+◌, ◌-◌, ◌*◌, ◌%◌, ◌≤◌, ◌<◌, ◌≡◌, Bool, false, cond, List, [], ◌∷◌, ◌++◌, leb, ltb, length, get_or, take, set, Float}
 use Rattle.std.specs.Float.{nan}
 use Rattle.lists.specs.Tab.{tabulate}
 use Rattle.refusals.specs.declared.Shape.{Shape}
@@ -23,22 +23,17 @@ claimed threshold at v =
     (record { plane = set v.plane at max_f32; waiting = v.waiting ++ (at ∷ []) })
     v
 
--- The four neighbours of sample p in a plane of n samples, w wide. p itself stands for a neighbour outside the plane.
-abbrev pub left_of : ℕ → ℕ → ℕ
-left_of w p = cond (ltb 0 (p % w)) (p - 1) p
+-- a neighbour is claimed, where it lies in the plane
+unfoldable pub claimed_if : Float → Bool → ℕ → Walk → Walk
+claimed_if threshold inside at v = cond inside (claimed threshold at v) v
 
-abbrev pub right_of : ℕ → ℕ → ℕ
-right_of w p = cond (ltb (p % w + 1) w) (p + 1) p
-
-abbrev pub above_of : ℕ → ℕ → ℕ
-above_of w p = cond (leb w p) (p - w) p
-
-abbrev pub under_of : ℕ → ℕ → ℕ → ℕ
-under_of w n p = cond (ltb (p + w) n) (p + w) p
-
--- the four are claimed
-abbrev pub claimed_around : Float → ℕ → ℕ → ℕ → Walk → Walk
-claimed_around t w n p v = claimed t (under_of w n p) (claimed t (above_of w p) (claimed t (right_of w p) (claimed t (left_of w p) v)))
+-- The neighbours of sample p in a plane of n samples, w wide: the one to its left, to its right, above it and below it.
+abbrev pub claimed_beside : Float → ℕ → ℕ → ℕ → Walk → Walk
+claimed_beside t w n p v =
+    claimed_if t (ltb (p + w) n) (p + w)
+    (claimed_if t (leb w p) (p - w)
+    (claimed_if t (ltb (p % w + 1) w) (p + 1)
+    (claimed_if t (ltb 0 (p % w)) (p - 1) v)))
 
 -- the plane with the connected set of s at the largest f32
 abbrev pub erased : Float → ℕ → List Float → ℕ → List Float
@@ -47,12 +42,6 @@ erased t w plane s = tabulate (length plane) (λ i. cond (connected t w plane s 
 -- no sample from place a on and before place r is below the threshold
 abbrev pub NoneBelow : Float → List Float → ℕ → ℕ → Type 0
 NoneBelow threshold plane a r = (j : ℕ) → a ≤ j → j < r → below threshold plane j ≡ false
-
--- the search for a sample below the threshold has come from place a to place r: not past the end, and past no such sample
-pub record Passed (threshold : Float) (plane : List Float) (a end r : ℕ) : Type 0 where
-  pub onward : a ≤ r
-  pub before_end : end < r → r ≡ a
-  pub none : NoneBelow threshold plane a r
 
 -- row k of the row slice is written, where there is room for it
 unfoldable pub put : List ℕ → ℕ → Row → List ℕ

@@ -1,13 +1,16 @@
 //! Demand 3 said of the code: functions that paint a tag and then read it, alone and in a list of its own, and that read the four starts of
 //! a quad; and 02's tickets 3 and 4: one that paints a sheet and reads a quad of it, and one that paints a sheet and reads the list of all
-//! its quads. They are no public entries. specs/Said.antt and specs/Sheet.antt say what is proved of them.
+//! its quads. They are no public entries, but take any input as these do, in plain slices. specs/Said.antt and specs/Sheet.antt say what is
+//! proved of them.
 #![tactic(auto)]
 
-ghost use Rattle.std.specs.Prelude.{◌<◌};
+ghost use Rattle.std.specs.Prelude.{◌≡◌, ◌<◌};
 ghost use Rattle.refusals.specs.Numbers.{outcome};
+ghost use Rattle.points.specs.Turned.{turned_left};
 ghost use Rattle.grid.specs.Quads.{tag_count};
 ghost use Rattle.listing.specs.Listing.{listing_of};
 ghost use Rattle.reader.specs.Answer.{paper_reading};
+ghost use Rattle.muosleap.specs.Quad.{decode_quad};
 ghost use Rattle.demand3.specs.Sheet.{SheetThenRead, SheetThenListed};
 ghost use Rattle.demand3.specs.Said.{PaintedThenRead, StartsRead, StartListed};
 
@@ -22,8 +25,8 @@ use reader::Reading;
 use refusals::{Frame, Refusal};
 use tables::Family;
 
-// The readings of the four starts of a quad, start 0 first.
-#[derive(Clone, Copy)]
+/// The readings of the four starts of a quad, start 0 first.
+#[derive(Clone, Copy, Debug, PartialEq)]
 pub struct Starts {
     pub s0: Reading,
     pub s1: Reading,
@@ -31,8 +34,23 @@ pub struct Starts {
     pub s3: Reading,
 }
 
-// Paints the word with the table's edge and border, and reads one start of the painter's quad on the plane as the painter left
-// it. Where the painter refuses, the answer is its number.
+/// Reads one start of a quad.
+fn read_start(
+    plane: &[u8],
+    frame: Frame,
+    family: Family,
+    codes: &[u64],
+    quad: Quad,
+    start: u8,
+) -> Reading
+    ensures { paper_reading result ≡ decode_quad plane.now frame family codes.now (turned_left start quad) }
+{
+    let turned = points::rotate_left(quad, start);
+    try_decode_quad(plane, frame, family, codes, turned)
+}
+
+/// Paints the word with the table's edge and border, and reads one start of the painter's quad on the plane as the painter left
+/// it. Where the painter refuses, the answer is its number.
 pub fn paint_then_read(
     plane: &mut [u8],
     frame: Frame,
@@ -45,33 +63,25 @@ pub fn paint_then_read(
     ensures { PaintedThenRead plane.old frame family codes.now word print start (paper_reading result) plane.new }
 {
     match paint_tag(plane, frame, family.edge, family.border, word, print) {
-        Ok(quad) => try_decode_quad(
-            plane,
-            frame,
-            family,
-            codes,
-            points::rotate_left(quad, start),
-        ),
+        Ok(quad) => read_start(plane, frame, family, codes, quad, start),
         Err(refusal) => Reading::from(refusal),
     }
 }
 
-// Reads one quad from each of its four corners.
+/// Reads one quad from each of its four corners.
 pub fn read_starts(plane: &[u8], frame: Frame, family: Family, codes: &[u64], quad: Quad) -> Starts
     ensures { StartsRead plane.now frame family codes.now quad (paper_reading result.s0) (paper_reading result.s1) (paper_reading result.s2) (paper_reading result.s3) }
 {
-    let q1 = points::rotate_left(quad, 1);
-    let q2 = points::rotate_left(quad, 2);
-    let q3 = points::rotate_left(quad, 3);
-    let s0 = try_decode_quad(plane, frame, family, codes, quad);
-    let s1 = try_decode_quad(plane, frame, family, codes, q1);
-    let s2 = try_decode_quad(plane, frame, family, codes, q2);
-    let s3 = try_decode_quad(plane, frame, family, codes, q3);
-    Starts { s0, s1, s2, s3 }
+    Starts {
+        s0: read_start(plane, frame, family, codes, quad, 0),
+        s1: read_start(plane, frame, family, codes, quad, 1),
+        s2: read_start(plane, frame, family, codes, quad, 2),
+        s3: read_start(plane, frame, family, codes, quad, 3),
+    }
 }
 
-// Paints the word with the table's edge and border, and reads one start of the painter's quad in a list of its own, on the plane as
-// the painter left it. Where the painter refuses, the answer is its number.
+/// Paints the word with the table's edge and border, and reads one start of the painter's quad in a list of its own, on the plane as
+/// the painter left it. Where the painter refuses, the answer is its number.
 pub fn list_start(
     plane: &mut [u8],
     frame: Frame,
@@ -92,8 +102,8 @@ pub fn list_start(
     try_decode_quads(plane, frame, family, codes, &list, rows, corners)
 }
 
-// Paints a sheet, and reads one start of the quad that stands at a position of it, on the plane as the painter left it. Where the
-// painter refuses, the answer is its number.
+/// Paints a sheet, and reads one start of the quad that stands at a position of it, on the plane as the painter left it. Where the
+/// painter refuses, the answer is its number.
 pub fn paint_sheet_then_read(
     plane: &mut [u8],
     frame: Frame,
@@ -111,15 +121,15 @@ pub fn paint_sheet_then_read(
 {
     match paint_sheet(plane, frame, family, codes, grid, print, quads) {
         Ok(()) => {
-            let quad = points::rotate_left(points::quad_at(quads, position), start);
-            try_decode_quad(plane, frame, family, codes, quad)
+            let quad = points::quad_at(quads, position);
+            read_start(plane, frame, family, codes, quad, start)
         }
         Err(refusal) => Reading::from(refusal),
     }
 }
 
-// Paints a sheet, and reads the list of all its quads as the painter wrote them, on the plane as it left it. Where the painter refuses,
-// the answer is its number.
+/// Paints a sheet, and reads the list of all its quads as the painter wrote them, on the plane as it left it. Where the painter refuses,
+/// the answer is its number.
 pub fn paint_sheet_then_list(
     plane: &mut [u8],
     frame: Frame,

@@ -7,7 +7,7 @@ use native.Mathlib.Omega.{arith}
 use borrow.Author.Tests.{lt-ltb, le-leb, ltb-true, leb-true}
 use lib.Arith.{digits_div, digits_mod}
 use lib.Dec.{ltb, leb}
-use Rattle.lists.proofs.Bools.{and_left, and_right}
+use Rattle.std.specs.Cmp.{first_so, second_so}
 use Rattle.lists.proofs.Grid.{next_row}
 use Rattle.painter.proofs.Runs.{Within}
 use Rattle.grid.specs.Sheet.{line_tag, in_tag}
@@ -24,11 +24,11 @@ module _ (first step size count n : ℕ) where
       let a = leb first n in
       let b = ltb (line_tag first step n) count in
       let c = ltb ((n - first) % step) size in
-      let from = leb-true first n (and_left a (b && c) e) in
-      let rest = and_right a (b && c) e in
-      let inside = ltb-true ((n - first) % step) size (and_right b c rest) in
+      let from = leb-true first n (first_so a (b && c) e) in
+      let rest = second_so a (b && c) e in
+      let inside = ltb-true ((n - first) % step) size (second_so b c rest) in
       let parts = div-add-mod' (n - first) step in
-      record { among = ltb-true (line_tag first step n) count (and_left b c rest); within = record { from = omega arith; to = omega arith } }
+      record { among = ltb-true (line_tag first step n) count (first_so b c rest); within = record { from = omega arith; to = omega arith } }
 
   module _ (c : ℕ) (apart : size ≤ step) (i : InTag first step size count c n) where
     abbrev d : ℕ

@@ -3,7 +3,8 @@ use mathlib.Core.Path.{◌≡◌, ap, ◌∙◌}
 use Prim.Native.Nat.{ℕ, zero, suc, ◌+◌, ◌-◌, ◌*◌, ◌/◌, ◌<◌}
 use native.Mathlib.Nat.{mul-zero, mul_comm, mod-lt, div-lt_iff_lt-mul, div-add-mod', zero-lt-suc}
 use native.Mathlib.Omega.{arith}
-use Rattle.lists.proofs.Grid.{row_of, column_of_lem, inside}
+use Rattle.std.proofs.lemmas.Nat.{div-mul-add, mod-mul-add}
+use Rattle.lists.proofs.Grid.{inside}
 use Rattle.grid.specs.Sheet.{position_at}
 use Rattle.grid.specs.Quads.{tag_count, position_row, position_column}
 use Rattle.grid.specs.declared.Grid.{Grid}
@@ -17,10 +18,10 @@ module _ (grid : Grid) where
   -- the position of a row and a column
   module _ (row column : ℕ) (r : row < grid.rows) (c : column < grid.columns) where
     pub position_row_lem : position_row grid (position_at grid row column) ≡ row
-    position_row_lem = omega (arith, row_of grid.columns (grid.rows - 1 - row) column c)
+    position_row_lem = omega (arith, div-mul-add (grid.rows - 1 - row) grid.columns column c)
 
     pub position_column_lem : position_column grid (position_at grid row column) ≡ column
-    position_column_lem = column_of_lem grid.columns (grid.rows - 1 - row) column c
+    position_column_lem = mod-mul-add (grid.rows - 1 - row) grid.columns column c
 
     pub position_lt : position_at grid row column < tag_count grid
     position_lt =

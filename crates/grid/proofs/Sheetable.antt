@@ -8,15 +8,14 @@ use native.Mathlib.Omega.{arith}
 use borrow.Author.Tests.{lt-ltb, le-ltb, ltb-false}
 use lib.Dec.{ltb}
 use lib.ListN.{length, get_or}
-use Rattle.lists.proofs.Bools.{or_left, or_right}
+use Rattle.std.proofs.lemmas.Bool.{or_parts}
 use Rattle.refusals.specs.declared.Frame.{Frame}
 use Rattle.refusals.proofs.Pixels.{good_frame}
 use Rattle.points.specs.Numbers.{quad_size}
-use Rattle.tables.specs.Table.{outside}
+use Rattle.tables.specs.Table.{outside, side_of}
 use Rattle.tables.specs.declared.Family.{Family}
 use Rattle.tables.proofs.Table.{Within, within, good_table, table_edge, table_border}
 use Rattle.painter.specs.Printable.{bad_print, ends_late, Printable}
-use Rattle.painter.specs.Tag.{side_of}
 use Rattle.painter.specs.declared.Print.{Print}
 use Rattle.grid.specs.Sheet.{tag_size, step_of}
 use Rattle.grid.specs.Quads.{tag_count, position_row, position_column, position_print}
@@ -38,13 +37,13 @@ good_counts codes grid e =
     let c = outside 1 32 grid.columns in
     let g = outside 1 16 grid.gap in
     let m = ltb codes (tag_count grid) in
-    let e₁ = or_right r (c || (g || m)) e in
-    let e₂ = or_right c (g || m) e₁ in
+    let e₁ = (or_parts r (c || (g || m)) e).1 in
+    let e₂ = (or_parts c (g || m) e₁).1 in
     record {
-      rows = within 1 32 grid.rows (or_left r (c || (g || m)) e);
-      columns = within 1 32 grid.columns (or_left c (g || m) e₁);
-      gaps = within 1 16 grid.gap (or_left g m e₂);
-      enough = ltb-false codes (tag_count grid) (or_right g m e₂);
+      rows = within 1 32 grid.rows (or_parts r (c || (g || m)) e).0;
+      columns = within 1 32 grid.columns (or_parts c (g || m) e₁).0;
+      gaps = within 1 16 grid.gap (or_parts g m e₂).0;
+      enough = ltb-false codes (tag_count grid) (or_parts g m e₂).1;
     }
 
 -- the grid and one pixel more lie within the picture
@@ -58,8 +57,8 @@ good_end frame family grid print e =
     let high = line_size family grid print grid.rows in
     let across = ends_late frame.width print.x wide in
     let down = ends_late frame.height print.y high in
-    let r = ltb-false frame.width (print.x + wide + 1) (or_left across down e) in
-    let l = ltb-false frame.height (print.y + high + 1) (or_right across down e) in
+    let r = ltb-false frame.width (print.x + wide + 1) (or_parts across down e).0 in
+    let l = ltb-false frame.height (print.y + high + 1) (or_parts across down e).1 in
     record { right = omega arith; low = omega arith }
 
 pub record Good (frame : Frame) (family : Family) (codes : ℕ) (grid : Grid) (print : Print) : Type 0 where
@@ -71,7 +70,7 @@ unfolding bad_grid
 Good-grid frame family codes grid print e =
     let c = bad_counts codes grid in
     let d = bad_end frame family grid print in
-    record { counts = good_counts codes grid (or_left c d e); ends = good_end frame family grid print (or_right c d e) }
+    record { counts = good_counts codes grid (or_parts c d e).0; ends = good_end frame family grid print (or_parts c d e).1 }
 
 -- tags do not overlap
 pub tags_apart : (family : Family) (grid : Grid) (print : Print) → tag_size family print ≤ step_of family grid print

@@ -7,7 +7,8 @@ use native.Mathlib.Omega.{arith}
 use borrow.Author.Tests.{lt-ltb, le-ltb, ltb-true, ltb-false, eq-eqb, eqb-true, eqb-false}
 use lib.Dec.{ltb, eqb}
 use lib.ListN.{get_or}
-use Rattle.lists.proofs.Bools.{same_test, and_left, and_right, overlay}
+use Rattle.std.specs.Cmp.{both_ways, first_so, second_so}
+use Rattle.lists.proofs.Bools.{overlay}
 use Rattle.refusals.specs.declared.Frame.{Frame}
 use Rattle.tables.specs.declared.Family.{Family}
 use Rattle.painter.specs.Picture.{in_block, repainted, filled}
@@ -58,8 +59,8 @@ module _ (family : Family) (codes : List ℕ) (grid : Grid) (print : Print) wher
         let a = in_tag print.x step size grid.columns x in
         let b = in_tag print.y step size grid.rows y in
         record {
-          columns = is_in_tag print.x step size grid.columns x (and_left a b e);
-          rows = is_in_tag print.y step size grid.rows y (and_right a b e);
+          columns = is_in_tag print.x step size grid.columns x (first_so a b e);
+          rows = is_in_tag print.y step size grid.rows y (second_so a b e);
         }
 
     module _ (position : ℕ) (h : position < tag_count grid) where
@@ -92,17 +93,17 @@ module _ (family : Family) (codes : List ℕ) (grid : Grid) (print : Print) wher
       to_square e =
           let g = in_grid family grid print x y in
           let q = eqb (position_of x y) position in
-          let f = found (and_left g q e) in
+          let f = found (first_so g q e) in
           let r = pixel_row family grid print y in
           let c = pixel_column family grid print x in
-          let is = eqb-true (position_of x y) position (and_right g q e) in
+          let is = eqb-true (position_of x y) position (second_so g q e) in
           let row : r ≡ position_row grid position = sym (position_row_lem grid r c f.rows.among f.columns.among) ∙ ap (position_row grid) is in
           let column : c ≡ position_column grid position = sym (position_column_lem grid r c f.rows.among f.columns.among) ∙ ap (position_column grid) is in
           (λ j. in_block (print.x + sym column j * step) (print.y + sym row j * step) size size x y)
           ∙ block_in (print.x + c * step) (print.y + r * step) size size x y f.columns.within.from f.columns.within.to f.rows.within.from f.rows.within.to
 
       pub square_is : in_block tag.x tag.y size size x y ≡ in_grid family grid print x y && eqb (position_of x y) position
-      square_is = same_test (in_block tag.x tag.y size size x y) (in_grid family grid print x y && eqb (position_of x y) position) of_square to_square
+      square_is = both_ways (in_block tag.x tag.y size size x y) (in_grid family grid print x y && eqb (position_of x y) position) of_square to_square
 
   -- ---- one tag after another
 

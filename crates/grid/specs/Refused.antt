@@ -2,10 +2,9 @@
 use Rattle.std.specs.Prelude.{ℕ, ◌+◌, ◌-◌, ◌*◌, Bool, ◌||◌, ltb}
 use Rattle.refusals.specs.declared.Frame.{Frame}
 use Rattle.points.specs.Numbers.{quad_size}
-use Rattle.tables.specs.Table.{outside}
+use Rattle.tables.specs.Table.{outside, side_of}
 use Rattle.tables.specs.declared.Family.{Family}
 use Rattle.painter.specs.Printable.{ends_late}
-use Rattle.painter.specs.Tag.{side_of}
 use Rattle.painter.specs.declared.Print.{Print}
 use Rattle.grid.specs.Quads.{tag_count}
 use Rattle.grid.specs.declared.Grid.{Grid}

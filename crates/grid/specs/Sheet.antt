@@ -4,8 +4,9 @@
 use Rattle.std.specs.Prelude.{ℕ, ◌+◌, ◌-◌, ◌*◌, ◌/◌, ◌%◌, Bool, ◌&&◌, cond, List, ltb, leb, get_or}
 use Rattle.refusals.specs.declared.Frame.{Frame}
 use Rattle.tables.specs.declared.Family.{Family}
+use Rattle.tables.specs.Table.{side_of}
 use Rattle.painter.specs.Picture.{repainted}
-use Rattle.painter.specs.Tag.{side_of, size_of, shade_of, cell_of}
+use Rattle.painter.specs.Tag.{size_of, shade_of, cell_of}
 use Rattle.painter.specs.declared.Print.{Print}
 use Rattle.grid.specs.declared.Grid.{Grid}
 

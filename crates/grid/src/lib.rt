@@ -24,7 +24,7 @@ pub struct Grid {
 }
 
 impl Grid {
-    // How many tags the grid has.
+    /// How many tags the grid has.
     fn tag_count(self) -> usize
         requires { (self.rows ≤ 32) × (self.columns ≤ 32) }
         ensures count { result ≡ tag_count self }
@@ -33,7 +33,7 @@ impl Grid {
         self.rows * self.columns
     }
 
-    // Refusal 17 for the counts of tags and the gap, with a table of so many codes.
+    /// Refusal 17 for the counts of tags and the gap, with a table of so many codes.
     fn bad_counts(self, codes: usize) -> bool
         ensures { result ≡ bad_counts codes self }
     {
@@ -43,7 +43,7 @@ impl Grid {
             || codes < self.tag_count()
     }
 
-    // So many tags in a line, with the gaps between them, in pixels.
+    /// So many tags in a line, with the gaps between them, in pixels.
     fn line_size(self, family: Family, print: Print, count: usize) -> usize
         requires { (family.edge ≤ 8) × (family.border ≤ 4) × (print.cell ≤ 64) × (self.gap ≤ 16) × (1 ≤ count) × (count ≤ 32) }
         ensures { result ≡ line_size family self print count }
@@ -51,22 +51,28 @@ impl Grid {
         let side = painter::side_of(family.edge, family.border);
         (count * side + (count - 1) * self.gap) * print.cell
     }
+
+    /// The grid does not end at least one pixel before the right and lower edges.
+    fn ends_late(self, frame: Frame, family: Family, print: Print) -> bool
+        requires small { (family.edge ≤ 8) × (family.border ≤ 4) × (print.cell ≤ 64) × (self.gap ≤ 16) }
+        requires counts { (1 ≤ self.rows) × (self.rows ≤ 32) × (1 ≤ self.columns) × (self.columns ≤ 32) }
+        ensures { result ≡ bad_end frame family self print }
+    {
+        let wide = self.line_size(family, print, self.columns);
+        let high = self.line_size(family, print, self.rows);
+        painter::ends_late(frame.width, print.x, wide)
+            || painter::ends_late(frame.height, print.y, high)
+    }
 }
 
 /// Refusal 17, with a table of so many codes: the counts of tags, the gap and the place in the frame. The counts come first: only
-/// small ones are multiplied.
+/// small ones are multiplied. It is promised of any number of codes, which a `Sheet`'s table is not.
 #[tactic(auto, using(std::proofs::lemmas::Bool::Decides::nat_tests), unfolding(crate::specs::Refused::bad_grid))]
 pub fn bad_grid(frame: Frame, family: Family, codes: usize, grid: Grid, print: Print) -> bool
     requires { (bad_edge family.edge ≡ false) × (bad_border family.border ≡ false) × (bad_style print ≡ false) }
     ensures { result ≡ bad_grid frame family codes grid print }
 {
-    if grid.bad_counts(codes) {
-        return true;
-    }
-    let wide = grid.line_size(family, print, grid.columns);
-    let high = grid.line_size(family, print, grid.rows);
-    painter::ends_late(frame.width, print.x, wide)
-        || painter::ends_late(frame.height, print.y, high)
+    grid.bad_counts(codes) || grid.ends_late(frame, family, print)
 }
 
 /// Refusal 16 for an output of so many numbers.
@@ -78,7 +84,7 @@ pub fn bad_output(grid: Grid, numbers: usize) -> bool
 }
 
 /// A sheet, checked but for its place: a table's codes in a grid. Its upper left pixel, its cell, turn and shades are the print's.
-#[derive(Clone, Copy)]
+#[derive(Clone, Copy, Debug, PartialEq, Eq)]
 pub struct Sheet<'a> {
     pub table: Table<'a>,
     pub grid: Grid,
@@ -107,7 +113,7 @@ impl<'a> Sheet<'a> {
         Ok(Sheet { table, grid, print })
     }
 
-    // The square of each of the sheet's tags.
+    /// The square of each of the sheet's tags.
     #[tactic(auto, using(tables::proofs::Table::table_edge, tables::proofs::Table::table_border))]
     fn square(&self) -> Square
         ensures { (result.edge ≡ self.now.table.family.edge) × (result.border ≡ self.now.table.family.border) }
@@ -129,7 +135,7 @@ impl<'a> Sheet<'a> {
         Ok(())
     }
 
-    // The print of the tag at a position: position 0 stands in the lowest row.
+    /// The print of the tag at a position: position 0 stands in the lowest row.
     fn position_print(&self, position: usize) -> Print
         requires placed { position < tag_count self.now.grid }
         requires across { self.now.print.x + line_size self.now.table.family self.now.grid self.now.print self.now.grid.columns ≤ 4096 }
@@ -157,6 +163,7 @@ impl<'a> Sheet<'a> {
     {
         let square = self.square();
         canvas.fill(self.print.light);
+        // A position tells the code, the print and the place of the quad.
         for position in 0..self.grid.tag_count() {
             let tag = Tag {
                 square,

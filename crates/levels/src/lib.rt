@@ -1,7 +1,7 @@
 //! Levels to bits: the levels of a tag's modules, from the first on, give a word.
 #![tactic(auto)]
 
-ghost use Rattle.std.specs.Prelude.{◌≡◌, ◌+◌, ◌/◌, ◌<◌, ◌≤◌, length};
+ghost use Rattle.std.specs.Prelude.{◌≡◌, ◌+◌, ◌-◌, ◌/◌, ◌<◌, ◌≤◌, length};
 ghost use Rattle.levels.specs.Levels.{least_of, greatest_of, word_of, unsure_of, code_of};
 ghost use Rattle.refusals.specs.Numbers.{outcome};
 
@@ -14,10 +14,29 @@ pub struct Range {
     pub greatest: u8,
 }
 
+impl Range {
+    /// Half of the sum of the two, halves up.
+    pub fn middle(self) -> u8
+        ensures { result ≡ (self.least + self.greatest + 1) / 2 }
+    {
+        ((u32::from(self.least) + u32::from(self.greatest) + 1) / 2) as u8
+    }
+
+    /// How far the two are apart.
+    pub fn contrast(self) -> u8
+        requires { self.least ≤ self.greatest }
+        ensures { result ≡ self.greatest - self.least }
+    {
+        self.greatest - self.least
+    }
+}
+
 /// The least and the greatest level.
 pub fn range_of(levels: &[u8]) -> Range
     requires { 0 < length levels.now }
-    ensures { (result.least ≡ least_of levels.now) × (result.greatest ≡ greatest_of levels.now) }
+    ensures least { result.least ≡ least_of levels.now }
+    ensures greatest { result.greatest ≡ greatest_of levels.now }
+    ensures ordered { result.least ≤ result.greatest }
 {
     let mut least = levels[0];
     let mut greatest = levels[0];
@@ -26,13 +45,6 @@ pub fn range_of(levels: &[u8]) -> Range
         greatest = greatest.max(level);
     }
     Range { least, greatest }
-}
-
-/// Half of the sum, halves up.
-pub fn middle_of(least: u8, greatest: u8) -> u8
-    ensures { result ≡ (least + greatest + 1) / 2 }
-{
-    ((u32::from(least) + u32::from(greatest) + 1) / 2) as u8
 }
 
 /// The number of unsure levels: those nearer to the middle than the band.
@@ -65,10 +77,10 @@ pub fn bit_code(levels: &[u8], band: u8, allowed: u32) -> Result<u64, Refusal>
     ensures { outcome result ≡ code_of levels.now band allowed }
 {
     let range = range_of(levels);
-    if range.greatest - range.least < 50 {
+    if range.contrast() < 50 {
         return Err(Refusal::Flat);
     }
-    let middle = middle_of(range.least, range.greatest);
+    let middle = range.middle();
     if (allowed as usize) < unsure_levels(middle, band, levels) {
         return Err(Refusal::Unsure);
     }

@@ -9,7 +9,7 @@ use native.Mathlib.Omega.{arith}
 use borrow.Author.Tests.{leb-true, leb-false, le-leb}
 use lib.Dec.{leb}
 use lib.ListN.{length, get_or}
-use Rattle.lists.proofs.Bools.{and_left, and_right}
+use Rattle.std.specs.Cmp.{first_so, second_so}
 use Rattle.word.specs.Word.{turns, differing}
 use Rattle.word.proofs.Differing.{differing_comm}
 use Rattle.lists.specs.Each.{each}
@@ -31,22 +31,22 @@ module _ (e t : ℕ) (codes : List ℕ) where
   mixed_at : (i : ℕ) → passes_at e t codes i ≡ true → mixed e t (get_or codes i 0) ≡ true
   unfolding passes_at
   mixed_at i h =
-      and_left (mixed e t (code i)) (apart_from_itself e t (code i)) (and_left (mixed e t (code i) && apart_from_itself e t (code i)) (each i (λ j. apart_in_turns e t (code i) (code j))) h)
+      first_so (mixed e t (code i)) (apart_from_itself e t (code i)) (first_so (mixed e t (code i) && apart_from_itself e t (code i)) (each i (λ j. apart_in_turns e t (code i) (code j))) h)
 
   itself_at : (i : ℕ) → passes_at e t codes i ≡ true → apart_from_itself e t (get_or codes i 0) ≡ true
   unfolding passes_at
   itself_at i h =
-      and_right (mixed e t (code i)) (apart_from_itself e t (code i)) (and_left (mixed e t (code i) && apart_from_itself e t (code i)) (each i (λ j. apart_in_turns e t (code i) (code j))) h)
+      second_so (mixed e t (code i)) (apart_from_itself e t (code i)) (first_so (mixed e t (code i) && apart_from_itself e t (code i)) (each i (λ j. apart_in_turns e t (code i) (code j))) h)
 
   earlier_at : (i j : ℕ) → j < i → passes_at e t codes i ≡ true → apart_in_turns e t (get_or codes i 0) (get_or codes j 0) ≡ true
   unfolding passes_at
   earlier_at i j l h =
-      each_at i (λ j. apart_in_turns e t (code i) (code j)) (and_right (mixed e t (code i) && apart_from_itself e t (code i)) (each i (λ j. apart_in_turns e t (code i) (code j))) h) j l
+      each_at i (λ j. apart_in_turns e t (code i) (code j)) (second_so (mixed e t (code i) && apart_from_itself e t (code i)) (each i (λ j. apart_in_turns e t (code i) (code j))) h) j l
 
   ones_at : (a : ℕ) → mixed e t a ≡ true → (t ≤ ones e a) × (t ≤ e * e - ones e a)
   unfolding mixed
   ones_at a h =
-      (leb-true t (ones e a) (and_left (leb t (ones e a)) (leb t (e * e - ones e a)) h), leb-true t (e * e - ones e a) (and_right (leb t (ones e a)) (leb t (e * e - ones e a)) h))
+      (leb-true t (ones e a) (first_so (leb t (ones e a)) (leb t (e * e - ones e a)) h), leb-true t (e * e - ones e a) (second_so (leb t (ones e a)) (leb t (e * e - ones e a)) h))
 
   swapped : (a b : ℕ) → 2 * t - 1 ≤ differing a b → 2 * t - 1 ≤ differing b a
   swapped a b h = subst (λ (d : ℕ). 2 * t - 1 ≤ d) (differing_comm 64 a b) h

@@ -11,7 +11,9 @@ use lib.Dec.{leb}
 use lib.ListN.{length, get_or, take}
 use lib.Pow.{pow_pos}
 use native.Mathlib.Numerals.{add-one}
-use Rattle.std.specs.List.{list_all}
+use Rattle.std.specs.List.{list_all, range_with_len}
+use Rattle.std.proofs.lemmas.List.{take_all}
+use Rattle.std.proofs.lemmas.List.FromFn.{length-range_with_len, get_or-range_with_len}
 use Rattle.std.proofs.lemmas.List.Folds.{list_all_more}
 use Rattle.lists.specs.Sum.{sum}
 use Rattle.lists.proofs.Sum.{sum_ext}
@@ -60,6 +62,13 @@ all_before ok codes zero h = refl
 all_before ok codes (suc n) h =
     ap (λ (k : ℕ). list_all ok (take k codes)) (sym (add-one n)) ∙ list_all_more ok codes n 0 (omega arith)
     ∙ ap (λ (x : Bool). x && ok (get_or codes n 0)) (all_before ok codes n (omega arith)) ∙ and_comm (each n (λ j. ok (get_or codes j 0))) (ok (get_or codes n 0))
+
+-- and a test of a range of numbers is that of each of them
+pub all_in_range : (ok : ℕ → Bool) (n : ℕ) → list_all ok (range_with_len 0 n) ≡ each n ok
+all_in_range ok n =
+    let r = range_with_len 0 n in
+    ap (list_all ok) (sym (take_all n r (omega (arith, length-range_with_len 0 n)))) ∙ all_before ok r n (omega (arith, length-range_with_len 0 n))
+    ∙ each_ext n (λ j. ok (get_or r j 0)) ok (λ j h. ap ok (get_or-range_with_len 0 n j 0 h ∙ omega arith))
 
 module _ (e t : ℕ) (codes : List ℕ) (n : ℕ) (table : Codes e t codes) (inside : n < length codes) where
   abbrev code : ℕ

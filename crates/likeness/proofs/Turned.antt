@@ -6,7 +6,7 @@ use native.Mathlib.Nat.{not-suc-le-zero}
 use native.Mathlib.Omega.{arith}
 use borrow.Author.Tests.{le-leb, leb-true, eqb-false, ne_eqb}
 use lib.Dec.{eqb, lit<}
-use Rattle.lists.proofs.Bools.{same_test, and_left, and_right}
+use Rattle.std.specs.Cmp.{both_ways, first_so, second_so}
 use Rattle.word.specs.Word.{turns, differing}
 use Rattle.word.proofs.Differing.{align, turned_alike, differing_comm}
 use Rattle.word.proofs.Turn.{turns-lt, turns_four, turns-add}
@@ -80,18 +80,18 @@ from_own e t a edge small d₁ d₂ =
 module _ (e t a : ℕ) (edge : e ≤ 8) (small : a < 2 ^ (e * e)) where
   pub far_from_is : (b : ℕ) → b < 2 ^ (e * e) → far_from (2 * t - 1) (four_turns e a) b ≡ apart_in_turns e t a b
   unfolding turns
-  far_from_is b hb = same_test (far_from (2 * t - 1) (four_turns e a) b) (apart_in_turns e t a b) every some
+  far_from_is b hb = both_ways (far_from (2 * t - 1) (four_turns e a) b) (apart_in_turns e t a b) every some
     where
       test : ℕ → Bool
       test r = differ_in (2 * t - 1) b (turns e r a)
 
       far : far_from (2 * t - 1) (four_turns e a) b ≡ true → (r : ℕ) → r < 4 → test r ≡ true
       far h =
-          let h₁ = and_right (test 0) (test 1 && (test 2 && (test 3 && true))) h in
-          let h₂ = and_right (test 1) (test 2 && (test 3 && true)) h₁ in
-          let h₃ = and_right (test 2) (test 3 && true) h₂ in
-          by_turn (λ (r : ℕ). test r ≡ true) (and_left (test 0) (test 1 && (test 2 && (test 3 && true))) h)
-          (and_left (test 1) (test 2 && (test 3 && true)) h₁) (and_left (test 2) (test 3 && true) h₂) (and_left (test 3) true h₃)
+          let h₁ = second_so (test 0) (test 1 && (test 2 && (test 3 && true))) h in
+          let h₂ = second_so (test 1) (test 2 && (test 3 && true)) h₁ in
+          let h₃ = second_so (test 2) (test 3 && true) h₂ in
+          by_turn (λ (r : ℕ). test r ≡ true) (first_so (test 0) (test 1 && (test 2 && (test 3 && true))) h)
+          (first_so (test 1) (test 2 && (test 3 && true)) h₁) (first_so (test 2) (test 3 && true) h₂) (first_so (test 3) true h₃)
 
       every : far_from (2 * t - 1) (four_turns e a) b ≡ true → apart_in_turns e t a b ≡ true
       every h =
@@ -106,15 +106,15 @@ module _ (e t a : ℕ) (edge : e ≤ 8) (small : a < 2 ^ (e * e)) where
 
   pub far_self_is : far_self (2 * t - 1) (four_turns e a) ≡ apart_from_itself e t a
   unfolding turns
-  far_self_is = same_test (far_self (2 * t - 1) (four_turns e a)) (apart_from_itself e t a) every some
+  far_self_is = both_ways (far_self (2 * t - 1) (four_turns e a)) (apart_from_itself e t a) every some
     where
       test : ℕ → Bool
       test x = differ_in (2 * t - 1) x a
 
       every : far_self (2 * t - 1) (four_turns e a) ≡ true → apart_from_itself e t a ≡ true
       every h =
-          let d₁ = leb-true (2 * t - 1) (differing a (turns e 1 a)) (and_left (test (turns e 1 a)) (test (turns e 2 a)) h) in
-          let d₂ = leb-true (2 * t - 1) (differing a (turns e 2 a)) (and_right (test (turns e 1 a)) (test (turns e 2 a)) h) in
+          let d₁ = leb-true (2 * t - 1) (differing a (turns e 1 a)) (first_so (test (turns e 1 a)) (test (turns e 2 a)) h) in
+          let d₂ = leb-true (2 * t - 1) (differing a (turns e 2 a)) (second_so (test (turns e 1 a)) (test (turns e 2 a)) h) in
           from_itself_of e t a (λ p q hp hq ne.
           let g = align e edge p q hp hq in
           subst (λ (d : ℕ). 2 * t - 1 ≤ d) (sym (g.same a a small small)) (from_own e t a edge small d₁ d₂ g.by g.by_lt (g.by_pos ne)))

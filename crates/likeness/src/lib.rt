@@ -7,7 +7,7 @@ ghost use Rattle.tables.specs.Table.{bad_codes};
 ghost use Rattle.likeness.specs.Likeness.{mixed, passes_at, likeness};
 ghost use Rattle.likeness.specs.Turned.{four_turns, far_from, far_self};
 
-// The code, and the code turned once, twice and three times.
+/// The code, and the code turned once, twice and three times.
 fn four_turns(code: u64, edge: u8) -> [u64; 4]
     requires { (0 < edge) × (edge ≤ 8) }
     ensures { result ≡ four_turns edge code }
@@ -17,7 +17,7 @@ fn four_turns(code: u64, edge: u8) -> [u64; 4]
     [code, once, twice, word::rotate_bits(twice, edge)]
 }
 
-// At least `t` ones and `t` zeros in the square.
+/// At least `t` ones and `t` zeros in the square.
 fn is_mixed(code: u64, edge: u8, t: u32) -> bool
     requires { (edge ≤ 8) × (code < 2 ^ (edge * edge)) × (t ≤ 64) }
     ensures { result ≡ mixed edge t code }
@@ -27,7 +27,7 @@ fn is_mixed(code: u64, edge: u8, t: u32) -> bool
     t <= ones && t <= places - ones
 }
 
-// The code differs in at least `least` bits from its first and its second turn; its third turn is its first turn's mirror of that.
+/// The code differs in at least `least` bits from its first and its second turn; its third turn is its first turn's mirror of that.
 fn is_far_from_itself(turns: [u64; 4], least: u32) -> bool
     ensures { result ≡ far_self least turns }
 {
@@ -35,7 +35,7 @@ fn is_far_from_itself(turns: [u64; 4], least: u32) -> bool
         && least <= word::differing_bits(turns[0], turns[2])
 }
 
-// In none of its turns does the code differ from `other` in fewer than `least` bits.
+/// In none of its turns does the code differ from `other` in fewer than `least` bits.
 fn is_far_from(turns: [u64; 4], other: u64, least: u32) -> bool
     ensures { result ≡ far_from least turns other }
 {
@@ -44,14 +44,14 @@ fn is_far_from(turns: [u64; 4], other: u64, least: u32) -> bool
         .all(|&turned| least <= word::differing_bits(turned, other))
 }
 
-// The same for all of `others`.
+/// The same for all of `others`.
 fn is_far_from_all(turns: [u64; 4], others: &[u64], least: u32) -> bool
     ensures { result ≡ list_all (far_from least turns) others.now }
 {
     others.iter().all(|&other| is_far_from(turns, other, least))
 }
 
-// The code at position `n` by itself, and against the codes before it.
+/// The code at position `n` by itself, and against the codes before it.
 fn code_passes(codes: &[u64], n: usize, edge: u8, threshold: u8) -> bool
     requires { (bad_codes edge threshold codes.now ≡ false) × (n < length codes.now) }
     ensures { result ≡ passes_at edge threshold codes.now n }
@@ -64,15 +64,10 @@ fn code_passes(codes: &[u64], n: usize, edge: u8, threshold: u8) -> bool
         && is_far_from_all(turns, &codes[..n], least)
 }
 
-/// The whole check, for a table that refusal 6 lets through.
+/// The whole check, for codes that refusal 6 lets through. It asks for no border, and so takes no `Table`, which has one.
 pub fn passes(codes: &[u64], edge: u8, threshold: u8) -> bool
     requires { bad_codes edge threshold codes.now ≡ false }
     ensures { result ≡ likeness edge threshold codes.now }
 {
-    for n in 0..codes.len() {
-        if !code_passes(codes, n, edge, threshold) {
-            return false;
-        }
-    }
-    true
+    (0..codes.len()).all(|n| code_passes(codes, n, edge, threshold))
 }

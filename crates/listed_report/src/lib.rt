@@ -1,5 +1,5 @@
-// Ticket 7 of 02 said of the code: a function that reads a list and writes its report. It is no public entry. specs/Reported.antt says
-// what is proved of it.
+//! Ticket 7 of 02 said of the code: a function that reads a list and writes its report. It is no public entry, but takes any input as
+//! these do, in plain slices. specs/Reported.antt says what is proved of it.
 #![tactic(auto)]
 
 ghost use Rattle.refusals.specs.Numbers.{outcome};
@@ -12,8 +12,8 @@ use points::QUAD_SIZE;
 use refusals::{Frame, Refusal};
 use tables::Family;
 
-// Reads a list with a lent table, and writes the report of the rows and the corner numbers as the list reader left them. Where that
-// refuses the list, the answer is its number.
+/// Reads a list with a lent table, and writes the report of the rows and the corner numbers as the list reader left them. Where that
+/// refuses the list, the answer is its number.
 pub fn try_decode_quads_reported(
     plane: &[u8],
     frame: Frame,

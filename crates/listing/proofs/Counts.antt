@@ -9,7 +9,7 @@ use borrow.Author.Tests.{eq-eqb, ne_eqb}
 use lib.ListN.{length, get_or, replicate, length-set, length-replicate, get_or-replicate}
 use lib.Seq.{get_or-set_same, get_or-set_other}
 use Rattle.lists.specs.Sum.{sum, one_if}
-use Rattle.lists.proofs.Bools.{same?}
+use Rattle.std.proofs.lemmas.Bool.{cases_eq}
 use Rattle.lists.proofs.Sum.{sum_most, one_if-lt}
 use Rattle.refusals.specs.Outcome.{Outcome, accepted, refused}
 use Rattle.reader.specs.Reading.{Tag}
@@ -54,7 +54,7 @@ module _ (read : ℕ → Outcome Tag) where
       size = c.size;
       each = λ id h. c.each id h ∙ sym (given_more n id ∙ ap (λ (o : Outcome Tag). one_if (gives_id id o) + times_given read n id) (sym e) ∙ omega arith);
     }
-    Counts-more (accepted tag) e k = record { size = length-set times tag.id (get_or times tag.id 0 + 1) ∙ c.size; each = λ id h. at id h (same? id tag.id) }
+    Counts-more (accepted tag) e k = record { size = length-set times tag.id (get_or times tag.id 0 + 1) ∙ c.size; each = λ id h. at id h (cases_eq id tag.id) }
       where
         more : (id : ℕ) → times_given read (n + 1) id ≡ one_if (gives_id id (accepted tag)) + times_given read n id
         more id = given_more n id ∙ ap (λ (o : Outcome Tag). one_if (gives_id id o) + times_given read n id) (sym e)

@@ -1,4 +1,3 @@
-pub mod Runs
 pub mod Room
 pub mod Sizes
 pub mod Repeated

@@ -1,7 +1,6 @@
 -- What a list reading leaves in its outputs: at each quad's place what that quad is in the list, and nothing else; so it depends on the quads'
 -- own readings alone. Assumes nothing.
 use mathlib.Core.Path.{◌≡◌, ap, ◌∙◌}
-use mathlib.Core.Bool.{false}
 use mathlib.Core.List.{List, flat_map}
 use Prim.Native.Nat.{ℕ, ◌*◌, ◌<◌}
 use native.Mathlib.Omega.{arith}
@@ -17,9 +16,8 @@ use Rattle.points.specs.Numbers.{quad_size, quad_at, corners_at}
 use Rattle.tables.specs.declared.Family.{Family}
 use Rattle.reader.specs.Reading.{Tag, reading}
 use Rattle.listing.specs.Repeated.{in_list, listed}
-use Rattle.listing.specs.Listing.{row_size, quad_count, bad_list, row_of, corners_of, readings, Listing, listing_of, listing, row_at}
-use Rattle.lists.proofs.Flat.{length-in_front, length_flat, part_at, behind}
-use Rattle.listing.proofs.Room.{good_list}
+use Rattle.listing.specs.Listing.{row_size, quad_count, row_of, corners_of, readings, Listing, listing_of, listing, row_at}
+use Rattle.lists.proofs.Flat.{part_at, behind}
 use Rattle.listing.proofs.Repeated.{length-listed, listed_at}
 use Rattle.listing.proofs.Sizes.{row_size_lem, corners_size}
 
@@ -75,17 +73,6 @@ module _ (plane : List ℕ) (frame : Frame) (family : Family) (codes : List ℕ)
     pub corners_behind : drop (quad_size * quad_count (length quads)) result.corners ≡ drop (quad_size * quad_count (length quads)) corners
     unfolding listing
     corners_behind = behind corners_of quad_size corners_size (listed all) corners count length_said
-
-    -- the outputs keep their lengths
-    pub rows_length : bad_list (length quads) (length rows) (length corners) ≡ false → length result.rows ≡ length rows
-    unfolding listing
-    rows_length e =
-        length-in_front (flat_map row_of (listed all)) rows (omega (arith, (good_list e).row_room, length_flat row_of row_size row_size_lem (listed all), length_said))
-
-    pub corners_length : bad_list (length quads) (length rows) (length corners) ≡ false → length result.corners ≡ length corners
-    unfolding listing
-    corners_length e =
-        length-in_front (flat_map corners_of (listed all)) corners (omega (arith, (good_list e).corner_room, length_flat corners_of quad_size corners_size (listed all), length_said))
 
 -- two pictures in which every quad reads alike have the same list readings
 pub listing_depends : (plane other : List ℕ) (frame frame' : Frame) (family : Family) (codes : List ℕ)

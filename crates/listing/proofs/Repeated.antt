@@ -9,7 +9,7 @@ use lib.Dec.{eqb, ltb}
 use lib.ListN.{length, get_or}
 use Rattle.lists.specs.Each.{any}
 use Rattle.lists.specs.Sum.{one_if}
-use Rattle.lists.proofs.Bools.{and_parts}
+use Rattle.std.proofs.lemmas.Bool.{and_parts}
 use Rattle.lists.proofs.Each.{any_found, any_from, any_ext}
 use Rattle.lists.proofs.Sum.{sum_two, sum_alone}
 use Rattle.lists.proofs.Tab.{length-tabulate, get_or-tabulate}

@@ -5,7 +5,7 @@ use Prim.Native.Nat.{ℕ, ◌*◌, ◌%◌, ◌≤◌}
 use native.Mathlib.Omega.{arith}
 use borrow.Author.Tests.{eq-eqb, eqb-true, le-ltb, ltb-false, not-false}
 use lib.Dec.{eqb, ltb}
-use Rattle.lists.proofs.Bools.{or_left, or_right}
+use Rattle.std.proofs.lemmas.Bool.{or_parts}
 use Rattle.points.specs.Numbers.{quad_size}
 use Rattle.listing.specs.Listing.{row_size, most_quads, quad_count, bad_list}
 
@@ -30,11 +30,11 @@ good_list {quads} {rows} {corners} e =
     let b = ltb most_quads (quad_count quads) in
     let c = ltb rows (row_size * quad_count quads) in
     let d = ltb corners (quad_size * quad_count quads) in
-    let e₁ = or_right (not a) (b || (c || d)) e in
-    let e₂ = or_right b (c || d) e₁ in
+    let e₁ = (or_parts (not a) (b || (c || d)) e).1 in
+    let e₂ = (or_parts b (c || d) e₁).1 in
     record {
-      whole = eqb-true (quads % quad_size) 0 (not-false a (or_left (not a) (b || (c || d)) e));
-      few = ltb-false most_quads (quad_count quads) (or_left b (c || d) e₁);
-      row_room = ltb-false rows (row_size * quad_count quads) (or_left c d e₂);
-      corner_room = ltb-false corners (quad_size * quad_count quads) (or_right c d e₂);
+      whole = eqb-true (quads % quad_size) 0 (not-false a (or_parts (not a) (b || (c || d)) e).0);
+      few = ltb-false most_quads (quad_count quads) (or_parts b (c || d) e₁).0;
+      row_room = ltb-false rows (row_size * quad_count quads) (or_parts c d e₂).0;
+      corner_room = ltb-false corners (quad_size * quad_count quads) (or_parts c d e₂).1;
     }

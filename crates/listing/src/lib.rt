@@ -9,12 +9,13 @@ ghost use Rattle.points.specs.Numbers.{quad_size};
 ghost use Rattle.listing.specs.Listing.{row_size, bad_list, row_of, corners_of, listing_of, listing};
 ghost use Rattle.listing.specs.Steps.{most_ids, Countable, counted, repeated_row, LookedAt};
 
-use points::{Point, QUAD_SIZE, Quad};
+use points::QUAD_SIZE;
 use reader::Reading;
-use refusals::Picture;
+use refusals::{Picture, Refusal};
 use tables::checked::Table;
 
-/// The numbers of a row: refusal (0 where there is none), id, turn and differing modules.
+/// The numbers of a row: refusal (0 where there is none), id, turn and differing modules. Rows are numbers, and corners beside them are
+/// floats, as document 01 has them and C lends them.
 pub const ROW_SIZE: usize = 4;
 
 /// The most quads of a list.
@@ -35,22 +36,9 @@ pub fn bad_list(quads: usize, rows: usize, corners: usize) -> bool
         || corners < QUAD_SIZE * count
 }
 
-/// The four numbers of row q.
-fn put_numbers(rows: &mut [u64], q: usize, refusal: u8, id: usize, turn: u8, differing: u8)
-    requires { row_size * q + row_size ≤ length rows.old }
-    ensures { rows.new ≡ sets rows.old (row_size * q) (refusal ∷ id ∷ turn ∷ differing ∷ []) }
-{
-    let at = ROW_SIZE * q;
-    rows[at] = refusal as u64;
-    rows[at + 1] = id as u64;
-    rows[at + 2] = turn as u64;
-    rows[at + 3] = differing as u64;
-}
-
-/// The row of a quad's reading.
-pub fn put_row(rows: &mut [u64], q: usize, reading: Reading)
-    requires { row_size * q + row_size ≤ length rows.old }
-    ensures { rows.new ≡ sets rows.old (row_size * q) (row_of (paper_reading reading)) }
+/// The row of a quad's reading: refusal, id, turn and differing modules.
+fn row_of(reading: Reading) -> [u64; ROW_SIZE]
+    ensures { result ≡ row_of (paper_reading reading) }
 {
     match reading {
         Reading::Tag {
@@ -58,59 +46,78 @@ pub fn put_row(rows: &mut [u64], q: usize, reading: Reading)
             turn,
             differing,
             ..
-        } => put_numbers(rows, q, 0, id, turn, differing),
-        Reading::Refused(number) => put_numbers(rows, q, number, 0, 0, 0),
+        } => [0, id as u64, u64::from(turn), u64::from(differing)],
+        Reading::Refused(number) => [u64::from(number), 0, 0, 0],
     }
 }
 
-/// The corner numbers of a quad's reading.
+/// The corner numbers of a quad's reading: those of the tag, or zeros.
+fn corners_of(reading: Reading) -> [f32; QUAD_SIZE]
+    ensures { result ≡ corners_of (paper_reading reading) }
+{
+    match reading {
+        Reading::Tag { corners, .. } => corners.into(),
+        Reading::Refused(_) => [0.0; QUAD_SIZE],
+    }
+}
+
+/// Puts a reading's row at row q.
+#[tactic(auto, using(points::proofs::Numbers::part_stores, crate::proofs::Sizes::row_size_lem))]
+pub fn put_row(rows: &mut [u64], q: usize, reading: Reading)
+    requires { row_size * q + row_size ≤ length rows.old }
+    ensures { rows.new ≡ sets rows.old (row_size * q) (row_of (paper_reading reading)) }
+{
+    let at = ROW_SIZE * q;
+    rows[at..at + ROW_SIZE].copy_from_slice(&row_of(reading));
+}
+
+/// Puts a reading's corner numbers at quad q.
+#[tactic(auto, using(points::proofs::Numbers::part_stores, crate::proofs::Sizes::corners_size))]
 pub fn put_corners(corners: &mut [f32], q: usize, reading: Reading)
     requires { quad_size * q + quad_size ≤ length corners.old }
     ensures { corners.new ≡ sets corners.old (quad_size * q) (corners_of (paper_reading reading)) }
 {
-    match reading {
-        Reading::Tag { corners: quad, .. } => points::put_quad(corners, q, quad),
-        Reading::Refused(_) => {
-            let zero = Point { x: 0.0, y: 0.0 };
-            let none = Quad {
-                q0: zero,
-                q1: zero,
-                q2: zero,
-                q3: zero,
-            };
-            points::put_quad(corners, q, none);
+    let at = QUAD_SIZE * q;
+    corners[at..at + QUAD_SIZE].copy_from_slice(&corners_of(reading));
+}
+
+/// How often each id was given by the quads so far.
+#[derive(Drop)]
+struct IdCounts {
+    times: [u16; MOST_IDS],
+}
+
+impl IdCounts {
+    /// Counts the id of a reading, if it gives one.
+    fn count(&mut self, reading: Reading)
+        requires { Countable self.old.times (paper_reading reading) }
+        ensures { self.new.times ≡ counted self.old.times (paper_reading reading) }
+    {
+        if let Reading::Tag { id, .. } = reading {
+            self.times[id] += 1;
         }
     }
-}
 
-/// Counts the id of a reading, if it gives one.
-fn count_id(times: &mut [u16; MOST_IDS], reading: Reading)
-    requires { Countable times.old (paper_reading reading) }
-    ensures { times.new ≡ counted times.old (paper_reading reading) }
-{
-    if let Reading::Tag { id, .. } = reading {
-        times[id] += 1;
+    /// Whether row q is that of a tag whose id was given more than once.
+    fn is_repeated(&self, rows: &[u64], q: usize) -> bool
+        requires { (row_size * q + row_size ≤ length rows.now) × (get_or rows.now (row_size * q + 1) 0 < most_ids) }
+        ensures { result ≡ repeated_row rows.now self.now.times q }
+    {
+        let at = ROW_SIZE * q;
+        let id = rows[at + 1] as usize;
+        rows[at] == 0 && 1 < self.times[id]
     }
-}
-
-/// Whether row q is that of a tag whose id was given more than once.
-fn is_repeated(rows: &[u64], times: &[u16; MOST_IDS], q: usize) -> bool
-    requires { (row_size * q + row_size ≤ length rows.now) × (get_or rows.now (row_size * q + 1) 0 < most_ids) }
-    ensures { result ≡ repeated_row rows.now times.now q }
-{
-    let at = ROW_SIZE * q;
-    let id = rows[at + 1] as usize;
-    rows[at] == 0 && 1 < times[id]
 }
 
 /// Refuses row q by 18 where its id was given more than once.
-fn refuse_repeated(rows: &mut [u64], corners: &mut [f32], times: &[u16; MOST_IDS], q: usize)
+fn refuse_repeated(rows: &mut [u64], corners: &mut [f32], counts: &IdCounts, q: usize)
     requires { (row_size * q + row_size ≤ length rows.old) × (quad_size * q + quad_size ≤ length corners.old) × (get_or rows.old (row_size * q + 1) 0 < most_ids) }
-    ensures { LookedAt rows.old corners.old times.now q rows.new corners.new }
+    ensures { LookedAt rows.old corners.old counts.now.times q rows.new corners.new }
 {
-    if is_repeated(rows, times, q) {
-        put_row(rows, q, Reading::Refused(18));
-        put_corners(corners, q, Reading::Refused(18));
+    if counts.is_repeated(rows, q) {
+        let repeated = Reading::from(Refusal::Repeated);
+        put_row(rows, q, repeated);
+        put_corners(corners, q, repeated);
     }
 }
 
@@ -128,16 +135,19 @@ pub fn try_decode_quads(
         ≡ listing picture.now.bytes.now picture.now.frame table.now.family table.now.codes.now quads.now rows.old corners.old }
 {
     let count = quads.len() / QUAD_SIZE;
-    let mut times = [0u16; MOST_IDS];
+    let mut counts = IdCounts {
+        times: [0; MOST_IDS],
+    };
+    // By number, since row q and corner numbers q are each written at their place.
     for q in 0..count {
         let quad = points::quad_at(quads, q);
         let reading = reader::try_decode_quad(picture, table, quad);
-        count_id(&mut times, reading);
+        counts.count(reading);
         put_row(rows, q, reading);
         put_corners(corners, q, reading);
     }
     for p in 0..count {
-        refuse_repeated(rows, corners, &times, p);
+        refuse_repeated(rows, corners, &counts, p);
     }
     count
 }

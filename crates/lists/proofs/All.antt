@@ -13,7 +13,7 @@ use lib.Dec.{ltb}
 use lib.ListN.{length, drop, get_or, drop_of_length-le}
 use lib.Seq.{drop-cons}
 use Rattle.lists.specs.Tab.{all}
-use Rattle.lists.proofs.Bools.{and_left, and_right}
+use Rattle.std.specs.Cmp.{first_so, second_so}
 
 module _ {ℓ} {A : Type ℓ} (ok : A → Bool) (l : List A) (i : ℕ) (d : A) (h : i < length l) where
   all_step : all ok (drop i l) ≡ ok (get_or l i d) && all ok (drop (suc i) l)
@@ -57,8 +57,8 @@ or_below k a b = go (ltb a (2 ^ k)) (ltb b (2 ^ k)) refl refl
 pub all_at {ℓ} : {A : Type ℓ} (ok : A → Bool) (l : List A) (k : ℕ) (d : A) → all ok l ≡ true → k < length l → ok (get_or l k d) ≡ true
 unfolding all
 all_at ok [] k d e h = absurd (not-suc-le-zero h)
-all_at ok (v ∷ vs) zero d e h = and_left (ok v) (all ok vs) e
-all_at ok (v ∷ vs) (suc k) d e h = all_at ok vs k d (and_right (ok v) (all ok vs) e) (le_of_suc-le-suc h)
+all_at ok (v ∷ vs) zero d e h = first_so (ok v) (all ok vs) e
+all_at ok (v ∷ vs) (suc k) d e h = all_at ok vs k d (second_so (ok v) (all ok vs) e) (le_of_suc-le-suc h)
 
 -- and the other way
 pub all_of {ℓ} : {A : Type ℓ} (ok : A → Bool) (l : List A) (d : A) → ((k : ℕ) → k < length l → ok (get_or l k d) ≡ true) → all ok l ≡ true

@@ -7,16 +7,17 @@ use Prim.Native.Nat.{ℕ, zero, suc, ◌+◌, ◌<◌}
 use native.Mathlib.Numerals.{add-one}
 use native.Mathlib.Nat.{le_refl, not-suc-le-zero, le_of_suc-le-suc, eq-or-lt_of_le}
 use native.Mathlib.Omega.{arith}
-use Rattle.lists.proofs.Bools.{same?, and_left, and_right, or_cases}
+use Rattle.std.proofs.lemmas.Bool.{cases_eq, or_cases}
+use Rattle.std.specs.Cmp.{first_so, second_so}
 use Rattle.lists.specs.Each.{each, any}
 
 pub each_at : (n : ℕ) (ok : ℕ → Bool) → each n ok ≡ true → (k : ℕ) → k < n → ok k ≡ true
 unfolding each
 each_at zero ok e k h = absurd (not-suc-le-zero h)
-each_at (suc n) ok e k h = go (each_at n ok (and_right (ok n) (each n ok) e) k) (eq-or-lt_of_le (le_of_suc-le-suc h))
+each_at (suc n) ok e k h = go (each_at n ok (second_so (ok n) (each n ok) e) k) (eq-or-lt_of_le (le_of_suc-le-suc h))
   where
     go : (k < n → ok k ≡ true) → (k ≡ n) ⊎ (k < n) → ok k ≡ true
-    go f (inl q) = ap ok q ∙ and_left (ok n) (each n ok) e
+    go f (inl q) = ap ok q ∙ first_so (ok n) (each n ok) e
     go f (inr m) = f m
 
 pub each_of : (n : ℕ) (ok : ℕ → Bool) → ((k : ℕ) → k < n → ok k ≡ true) → each n ok ≡ true
@@ -56,7 +57,7 @@ any_found (suc k) s test h e =
     ⊎_elim
     (λ q. or_inr (any k test) (test k) (subst (λ (x : ℕ). test x ≡ true) q e))
     (λ q. or_inl (any k test) (test k) (any_found k s test (omega arith) e))
-    (same? s k)
+    (cases_eq s k)
 
 pub any_from : (k : ℕ) (test : ℕ → Bool) → any k test ≡ true → (s : ℕ) × (s < k) × (test s ≡ true)
 unfolding any

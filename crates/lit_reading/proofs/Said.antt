@@ -6,7 +6,7 @@ use Prim.Native.Nat.{ℕ, ◌<◌}
 use borrow.Author.Tests.{not-true}
 use lib.Ieee.{Float}
 use lib.ListN.{length}
-use Rattle.lists.proofs.Bools.{and_left, and_right}
+use Rattle.std.specs.Cmp.{first_so, second_so}
 use Rattle.refusals.specs.Outcome.{Outcome, accepted, Done}
 use Rattle.refusals.specs.Pixels.{bad_frame, at_pitch}
 use Rattle.refusals.specs.declared.Frame.{Frame}
@@ -39,7 +39,7 @@ Lit-is : (shown : List ℕ) (frame : Frame) (shade : ℕ) (family : Family) (qua
 Lit-is shown frame shade family quad picture pitch e =
     let bad = bad_frame (length picture) (at_pitch frame pitch) in
     let lit = is_lit shown frame shade family quad picture (at_pitch frame pitch) in
-    record { wide = refl; high = refl; planes = not-true bad (and_left (not bad) lit e); samples = and_right (not bad) lit e }
+    record { wide = refl; high = refl; planes = not-true bad (first_so (not bad) lit e); samples = second_so (not bad) lit e }
 
 -- the painter's quad can be sampled on a plane that refusal 1 lets through
 print_sampleable : (len : ℕ) (frame : Frame) (family : Family) (w : ℕ) (print : Print) (shown : List ℕ) → Printable len frame family.edge family.border w print

@@ -1,5 +1,6 @@
 //! Ticket 8 of 02 said of the code: functions that paint a tag, or a sheet, work out whether its samples are lit well enough in a picture that
-//! they are lent, and read them there. They are no public entries. specs/Said.antt says what is proved of them.
+//! they are lent, and read them there. They are no public entries, but take any input as these do, in plain slices. specs/Said.antt says what
+//! is proved of them.
 #![tactic(auto)]
 
 ghost use Rattle.std.specs.Prelude.{◌≡◌, ◌<◌, false, length, take};
@@ -19,19 +20,21 @@ use grid::Grid;
 use muosleap_paint::painting::paint_tag;
 use muosleap_paint::sheet::paint_sheet;
 use painter::Print;
+use places::Corners;
 use points::Quad;
 use reader::Reading;
 use refusals::{Frame, Picture, Refusal};
 use tables::Family;
 
-/// A reading of a picture, and whether the painted tag's samples are lit there as ticket 8 asks.
-#[derive(Clone, Copy)]
+/// A reading of a picture, and whether the painted tag's samples are lit there as ticket 8 asks: two answers, and not one with a flag,
+/// since a picture that is not lit so may be read all the same.
+#[derive(Clone, Copy, Debug, PartialEq)]
 pub struct LitReading {
     pub lit: bool,
     pub reading: Reading,
 }
 
-// A level is at least 10 above the middle where its module was painted light, at least 10 below it where it was painted dark.
+/// A level is at least 10 above the middle where its module was painted light, at least 10 below it where it was painted dark.
 fn level_clears(middle: u8, painted_light: bool, level: u8) -> bool
     ensures { result ≡ clears middle painted_light level }
 {
@@ -42,7 +45,7 @@ fn level_clears(middle: u8, painted_light: bool, level: u8) -> bool
     }
 }
 
-// Every level clears the middle so; `painted` is what was painted at each.
+/// Every level clears the middle so; `painted` is what was painted at each.
 fn all_clear(middle: u8, light: u8, painted: &[u8], levels: &[u8]) -> bool
     requires { length painted.now ≡ length levels.now }
     ensures { result ≡ each (length levels.now) (clears_at middle light painted.now levels.now) }
@@ -50,28 +53,27 @@ fn all_clear(middle: u8, light: u8, painted: &[u8], levels: &[u8]) -> bool
     painted.iter().zip(levels).all(|(&shown, &level)| level_clears(middle, shown == light, level))
 }
 
-// They clear their own middle, and the greatest and the least of them are at least 50 apart.
-#[tactic(auto, using(levels::proofs::Extremes::least_le_greatest), unfolding(paper::specs::Light::lit_levels))]
+/// They clear their own middle, and the greatest and the least of them are at least 50 apart.
+#[tactic(auto, unfolding(paper::specs::Light::lit_levels))]
 fn levels_lit(light: u8, painted: &[u8], levels: &[u8]) -> bool
     requires { (0 < length levels.now) × (length painted.now ≡ length levels.now) }
     ensures { result ≡ lit_levels (middle_of levels.now) light painted.now levels.now }
 {
     let range = levels::range_of(levels);
-    let middle = levels::middle_of(range.least, range.greatest);
-    50 <= range.greatest - range.least && all_clear(middle, light, painted, levels)
+    50 <= range.contrast() && all_clear(range.middle(), light, painted, levels)
 }
 
-// The levels of a quad's samples, from the first on.
+/// The levels of a quad's samples, from the first on. What is asked speaks of picture and quad together, and each pair is met once, so no
+/// type holds it.
 fn quad_levels(picture: &Picture, family: Family, quad: Quad) -> [u8; 64]
     requires { Sampleable picture.now.bytes.now picture.now.frame family quad }
     ensures { take (samples family) result ≡ levels_of picture.now.bytes.now picture.now.frame family (axes_of quad) }
 {
-    let mut levels = [0; 64];
-    reader::sample_levels(picture, family, places::axes_of(quad), &mut levels).unwrap();
-    levels
+    let axes = Corners::new(quad).unwrap().axes();
+    reader::sample_levels(picture, family, axes).unwrap()
 }
 
-// Whether the samples of a quad are lit well enough in a picture, by what the painted picture shows at them.
+/// Whether the samples of a quad are lit well enough in a picture, by what the painted picture shows at them.
 fn is_lit(shown: &Picture, light: u8, family: Family, quad: Quad, picture: &Picture) -> bool
     requires shown { Sampleable shown.now.bytes.now shown.now.frame family quad }
     requires picture { Sampleable picture.now.bytes.now picture.now.frame family quad }
@@ -83,7 +85,7 @@ fn is_lit(shown: &Picture, light: u8, family: Family, quad: Quad, picture: &Pict
     levels_lit(light, &painted[..edge * edge], &levels[..edge * edge])
 }
 
-// Reads one start of a painted quad in a picture of the painted plane's width and height, and works out whether its samples are lit there.
+/// Reads one start of a painted quad in a picture of the painted plane's width and height, and works out whether its samples are lit there.
 fn read_lit(
     shown: &Picture,
     light: u8,
@@ -103,6 +105,7 @@ fn read_lit(
     };
     let turned = points::rotate_left(quad, start);
     let reading = muosleap::detector::try_decode_quad(picture, seen, family, codes, turned);
+    // A match, since in its arm it is known of what the picture was made.
     let lit = match Picture::new(picture, seen) {
         Ok(picture) => is_lit(shown, light, family, quad, &picture),
         Err(_) => false,
@@ -110,7 +113,7 @@ fn read_lit(
     LitReading { lit, reading }
 }
 
-// What there is to say of a picture where the painter refuses.
+/// What there is to say of a picture where the painter refuses.
 fn unpainted(refusal: Refusal) -> LitReading
     ensures { (result.lit ≡ false) × (paper_reading result.reading ≡ refused (number_of refusal)) }
 {

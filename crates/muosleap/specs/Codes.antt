@@ -1,5 +1,5 @@
 -- The entries on words and codes: "the code search's 6, 13; a lone turn's 6 for its edge". Assumes nothing.
-use Rattle.std.specs.Prelude.{ℕ, cond, List, Result, Ok, Err}
+use Rattle.std.specs.Prelude.{ℕ, cond, List, Result}
 use Rattle.refusals.specs.Outcome.{Outcome, accepted, refused}
 use Rattle.word.specs.Word.{turn}
 use Rattle.tables.specs.Table.{bad_edge, bad_codes}
@@ -7,18 +7,16 @@ use Rattle.search.specs.Search.{Seen, search, search_from}
 use Rattle.search.specs.Compared.{compared, compared_from}
 use Rattle.search.specs.Answer.{paper_found}
 use Rattle.search.specs.declared.SearchResult.{SearchResult}
-use Rattle.refusals.specs.Numbers.{number_of}
+use Rattle.refusals.specs.Numbers.{outcome_by}
 use Rattle.refusals.specs.declared.refusal.Refusal.{Refusal}
 
 -- what a search says: id, turn and differing modules, or the refusal
 abbrev pub paper_search : Result SearchResult Refusal → Outcome Seen
-paper_search (Ok s) = paper_found s
-paper_search (Err refusal) = refused (number_of refusal)
+paper_search answer = outcome_by paper_found answer
 
 -- the count of codes compared, "given beside 13" too; a table that is refused has none
 abbrev pub paper_count : Result SearchResult Refusal → Outcome ℕ
-paper_count (Ok s) = accepted s.compared
-paper_count (Err refusal) = refused (number_of refusal)
+paper_count answer = outcome_by (λ (s : SearchResult). accepted s.compared) answer
 
 -- a lone turn
 unfoldable pub turned : ℕ → ℕ → Outcome ℕ

@@ -1,5 +1,5 @@
 -- The quad reader as an entry: "The quad reader's own are 1, 6 and 8 to 13". Assumes nothing.
-use Rattle.std.specs.Prelude.{ℕ, cond, not, List, length, Result, Ok, Err}
+use Rattle.std.specs.Prelude.{ℕ, cond, not, List, length, Result}
 use Rattle.refusals.specs.Outcome.{Outcome, refused}
 use Rattle.refusals.specs.Pixels.{bad_frame}
 use Rattle.refusals.specs.declared.Frame.{Frame}
@@ -10,13 +10,12 @@ use Rattle.tag_families.specs.Families.{is_family, family_of, codes_of}
 use Rattle.reader.specs.Reading.{Tag, reading}
 use Rattle.reader.specs.Answer.{paper_reading}
 use Rattle.reader.specs.declared.Reading.{Reading}
-use Rattle.refusals.specs.Numbers.{number_of}
+use Rattle.refusals.specs.Numbers.{outcome_by}
 use Rattle.refusals.specs.declared.refusal.Refusal.{Refusal}
 
 -- what was read, or the refusal before it
 abbrev pub paper_quad : Result Reading Refusal → Outcome Tag
-paper_quad (Ok r) = paper_reading r
-paper_quad (Err refusal) = refused (number_of refusal)
+paper_quad answer = outcome_by paper_reading answer
 
 -- with a lent table
 unfoldable pub decode_quad : List ℕ → Frame → Family → List ℕ → Quad → Outcome Tag

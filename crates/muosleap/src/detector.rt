@@ -1,10 +1,10 @@
 //! Codes, levels and quads: the entries that port the original's detector.rs.
 ghost use Rattle.std.specs.Prelude.{◌≡◌};
-ghost use Rattle.refusals.specs.Numbers.{outcome};
+ghost use Rattle.refusals.specs.Numbers.{outcome, done};
 ghost use Rattle.reader.specs.Answer.{paper_reading};
 ghost use Rattle.muosleap.specs.Quad.{paper_quad, decode_quad, decode_quad_in};
 ghost use Rattle.muosleap.specs.BitCode.{bit_code};
-ghost use Rattle.muosleap.specs.Likeness.{done, check_likeness};
+ghost use Rattle.muosleap.specs.Likeness.{check_likeness};
 ghost use Rattle.muosleap.specs.Codes.{paper_search, paper_count, turned, best_tag, codes_compared};
 
 use points::Quad;
@@ -88,19 +88,10 @@ fn read(
 fn read_in(plane: &[u8], frame: Frame, family: u8, quad: Quad) -> Result<Reading, Refusal>
     ensures { paper_quad result ≡ decode_quad_in plane.now frame family quad }
 {
+    // One line differs from `read`: a shared function would take a table's `Result`, made before the plane is tested, or a closure.
     let picture = Picture::new(plane, frame)?;
     let table = tag_families::table(family)?;
     Ok(reader::try_decode_quad(&picture, &table, quad))
-}
-
-/// What was read, or the refusal before it.
-fn said(read: Result<Reading, Refusal>) -> Reading
-    ensures { paper_reading result ≡ paper_quad read }
-{
-    match read {
-        Ok(reading) => reading,
-        Err(refusal) => Reading::from(refusal),
-    }
 }
 
 /// A reading of one quad with a lent table. Refusals 1, 6, and 8 to 13.
@@ -113,12 +104,12 @@ pub fn try_decode_quad(
 ) -> Reading
     ensures { paper_reading result ≡ decode_quad plane.now frame family codes.now quad }
 {
-    said(read(plane, frame, family, codes, quad))
+    read(plane, frame, family, codes, quad).unwrap_or_else(Reading::from)
 }
 
 /// The same by family number, over the constant tables. Refusal 6 where there is no such family.
 pub fn try_decode_quad_in(plane: &[u8], frame: Frame, family: u8, quad: Quad) -> Reading
     ensures { paper_reading result ≡ decode_quad_in plane.now frame family quad }
 {
-    said(read_in(plane, frame, family, quad))
+    read_in(plane, frame, family, quad).unwrap_or_else(Reading::from)
 }

@@ -1,1 +1,5 @@
+pub mod Paintings
+pub mod Picture
+pub mod Reports
 pub mod Structs
+pub mod Tags

@@ -1,12 +1,13 @@
-// The painter for C.
+//! Painting. The plane and a sheet's output are lent on to the entry; a lone tag's quad is written only where accepted.
 ghost use Rattle.muosleap_paint.specs.PaintTag.{paint_tag, paint_tag_in};
 ghost use Rattle.muosleap_paint.specs.PaintSheet.{paint_sheet, paint_sheet_in};
 ghost use Rattle.outputs.specs.Outputs.{held};
-ghost use Rattle.c_paint.specs.Paintings.{PaintsTag, PaintsSheet};
+ghost use Rattle.muosleap_c.specs.Paintings.{PaintsTag, PaintsSheet};
 ghost use Rattle.muosleap_c.specs.Structs.{frame_of, table_of, print_of, grid_of};
 
 use crate::structs;
 
+/// One tag, with the edge and the border lent. Refusals 1, 6 and 14.
 #[unsafe(no_mangle)]
 pub extern "C" fn muosleap_paint_tag(
     plane: &mut [u8],
@@ -29,9 +30,11 @@ pub extern "C" fn muosleap_paint_tag(
 {
     let frame = structs::frame_of(width, height, pitch);
     let print = structs::print_of(x, y, cell, turn, light, dark);
-    c_paint::paint_tag(plane, frame, edge, border, word, print, quad)
+    let painted = muosleap_paint::painting::paint_tag(plane, frame, edge, border, word, print);
+    outputs::put(painted.map(<[f32; 8]>::from), quad)
 }
 
+/// The same by family number.
 #[unsafe(no_mangle)]
 pub extern "C" fn muosleap_paint_tag_in(
     plane: &mut [u8],
@@ -53,9 +56,11 @@ pub extern "C" fn muosleap_paint_tag_in(
 {
     let frame = structs::frame_of(width, height, pitch);
     let print = structs::print_of(x, y, cell, turn, light, dark);
-    c_paint::paint_tag_in(plane, frame, family, word, print, quad)
+    let painted = muosleap_paint::painting::paint_tag_in(plane, frame, family, word, print);
+    outputs::put(painted.map(<[f32; 8]>::from), quad)
 }
 
+/// A sheet of a lent table. Refusals 1, 6, 14, 17 and 16.
 #[unsafe(no_mangle)]
 pub extern "C" fn muosleap_paint_sheet(
     plane: &mut [u8],
@@ -86,9 +91,11 @@ pub extern "C" fn muosleap_paint_sheet(
     let family = structs::table_of(edge, border, hamming_distance);
     let grid = structs::grid_of(rows, columns, gap);
     let print = structs::print_of(x, y, cell, turn, light, dark);
-    c_paint::paint_sheet(plane, frame, family, codes, grid, print, quads)
+    let sheet = muosleap_paint::sheet::paint_sheet(plane, frame, family, codes, grid, print, quads);
+    outputs::number_of(sheet)
 }
 
+/// The same by family number.
 #[unsafe(no_mangle)]
 pub extern "C" fn muosleap_paint_sheet_in(
     plane: &mut [u8],
@@ -114,5 +121,6 @@ pub extern "C" fn muosleap_paint_sheet_in(
     let frame = structs::frame_of(width, height, pitch);
     let grid = structs::grid_of(rows, columns, gap);
     let print = structs::print_of(x, y, cell, turn, light, dark);
-    c_paint::paint_sheet_in(plane, frame, family, grid, print, quads)
+    let sheet = muosleap_paint::sheet::paint_sheet_in(plane, frame, family, grid, print, quads);
+    outputs::number_of(sheet)
 }

@@ -1,14 +1,17 @@
-// Picture to clusters for C.
-ghost use Rattle.std.specs.Prelude.{length};
+//! Picture to clusters: blur, response, threshold, clusters, centres.
+ghost use Rattle.std.specs.Prelude.{◌≡◌, length};
 ghost use Rattle.muosleap_picture.specs.ImageUtil.{gaussian_blur, hessian_response, response_threshold};
 ghost use Rattle.muosleap_picture.specs.SaddleClusters.{init_saddle_clusters};
 ghost use Rattle.muosleap_picture.specs.ClusterCenter.{cluster_center};
 ghost use Rattle.outputs.specs.Outputs.{Gives, whole, held};
-ghost use Rattle.c_picture.specs.Picture.{Blurs, Responds, FindsClusters, coordinates};
+ghost use Rattle.muosleap_c.specs.Picture.{Blurs, Responds, FindsClusters, coordinates};
 ghost use Rattle.muosleap_c.specs.Structs.{shape_of};
 
+use muosleap_picture::{image_util, saddles};
+use points::Point;
 use refusals::Shape;
 
+/// A blur; a refused call leaves both planes as they were. Refusals 1, 2 and 3.
 #[unsafe(no_mangle)]
 pub extern "C" fn muosleap_gaussian_blur_f32(
     img: &[f32],
@@ -22,9 +25,11 @@ pub extern "C" fn muosleap_gaussian_blur_f32(
         result (held temp) (held out) }
 {
     let shape = Shape { width, height };
-    c_picture::gaussian_blur_f32(img, shape, weights, temp, out)
+    let blurred = image_util::gaussian_blur_f32(img, shape, weights, temp, out);
+    outputs::number_of(blurred)
 }
 
+/// A response; a refused call leaves the output as it was. Refusals 1 and 3.
 #[unsafe(no_mangle)]
 pub extern "C" fn muosleap_hessian_response(
     img: &[f32],
@@ -35,9 +40,10 @@ pub extern "C" fn muosleap_hessian_response(
     ensures { Responds (hessian_response img.now (shape_of width height) out.old) result (held out) }
 {
     let shape = Shape { width, height };
-    c_picture::hessian_response(img, shape, out)
+    outputs::number_of(image_util::hessian_response(img, shape, out))
 }
 
+/// A response's threshold. Refusals 1 and 3.
 #[unsafe(no_mangle)]
 pub extern "C" fn muosleap_response_threshold(
     response: &[f32],
@@ -48,9 +54,10 @@ pub extern "C" fn muosleap_response_threshold(
     ensures { Gives (response_threshold response.now (shape_of width height)) whole result (held threshold) }
 {
     let shape = Shape { width, height };
-    c_picture::response_threshold(response, shape, threshold)
+    outputs::put(image_util::response_threshold(response, shape), threshold)
 }
 
+/// Clusters, and how many rows they are; a refused call leaves plane, worklist and rows as they were. Refusals 1, 3, 4 and 5.
 #[unsafe(no_mangle)]
 pub extern "C" fn muosleap_init_saddle_clusters(
     h_mat: &mut [f32],
@@ -66,9 +73,18 @@ pub extern "C" fn muosleap_init_saddle_clusters(
         result (held h_mat) (held worklist) (held rows) (held total) }
 {
     let shape = Shape { width, height };
-    c_picture::init_saddle_clusters(h_mat, shape, threshold, worklist, rows, total)
+    let clusters = saddles::init_saddle_clusters(h_mat, shape, threshold, worklist, rows);
+    outputs::put(clusters, total)
 }
 
+/// The two numbers of a point.
+fn coordinates(p: Point) -> [f32; 2]
+    ensures { result ≡ coordinates p }
+{
+    [p.x, p.y]
+}
+
+/// A cluster's centre. Refusal 15.
 #[unsafe(no_mangle)]
 pub extern "C" fn muosleap_cluster_center(
     sum_x: u64,
@@ -78,5 +94,6 @@ pub extern "C" fn muosleap_cluster_center(
 ) -> u32
     ensures { Gives (cluster_center sum_x sum_y count) coordinates result (held center) }
 {
-    c_picture::cluster_center(sum_x, sum_y, count, center)
+    let found = saddles::cluster_center(sum_x, sum_y, count);
+    outputs::put(found.map(coordinates), center)
 }

@@ -6,10 +6,13 @@ use Prim.Native.Nat.{ℕ}
 use native.Mathlib.Omega.{arith}
 use lib.Ieee.{Float}
 use lib.ListN.{length}
+use Rattle.std.specs.Prelude.{Result, Ok}
 use Rattle.lists.specs.Front.{in_front}
+use Rattle.refusals.specs.Numbers.{done as done_of}
 use Rattle.refusals.specs.Outcome.{accepted, refused}
 use Rattle.refusals.specs.Pixels.{bad_frame}
 use Rattle.refusals.specs.declared.Frame.{Frame}
+use Rattle.refusals.specs.declared.refusal.Refusal.{Refusal}
 use Rattle.tables.specs.Table.{bad_table}
 use Rattle.tables.specs.declared.Family.{Family}
 use Rattle.tag_families.specs.Families.{is_family, family_of, codes_of}
@@ -72,6 +75,14 @@ module _ (plane : List ℕ) (frame : Frame) (family : Family) (codes : List ℕ)
       let t = passes call (bad_frame (length plane) frame) (bad_table family codes) (bad_style print) (bad_grid frame family (length codes) grid print) (bad_output grid (length quads))
       (ap (λ (o : SheetPainting). o.answer) (sym is_tested) ∙ e) in
       record { planes = t.0; tables = t.1; styles = t.2; grids = t.3; outputs = t.4 }
+
+-- what the function painted and answered with `Ok`, nothing refuses
+pub painted : (plane : List ℕ) {frame : Frame} {family : Family} {codes : List ℕ} {grid : Grid} {print : Print} (quads : List Float)
+    → {result : Result (Unit {0}) Refusal} {left : List ℕ} {written : List Float} {u : Unit {0}}
+    → painting_of (done_of result) left written ≡ paint_sheet plane frame family codes grid print quads → result ≡ Ok u
+    → Sheetable (length plane) frame family codes grid print (length quads)
+painted plane {frame} {family} {codes} {grid} {print} quads said ok =
+    sheet_accepted plane frame family codes grid print quads (sym (ap (λ (o : SheetPainting). o.answer) said) ∙ ap done_of ok)
 
 -- the painting of a family is the painting with its table, for all inputs
 pub sheet_in : (plane : List ℕ) (frame : Frame) (number : ℕ) (grid : Grid) (print : Print) (quads : List Float) → is_family number ≡ true

@@ -5,7 +5,7 @@ use mathlib.Core.List.{List}
 use Prim.Native.Nat.{ℕ}
 use native.Mathlib.Omega.{arith}
 use lib.ListN.{length}
-use Rattle.lists.proofs.Bools.{or_left, or_right}
+use Rattle.std.proofs.lemmas.Bool.{or_parts}
 use Rattle.refusals.specs.Outcome.{accepted}
 use Rattle.refusals.specs.Pixels.{bad_frame}
 use Rattle.refusals.specs.declared.Frame.{Frame}
@@ -68,8 +68,8 @@ module _ (plane : List ℕ) (frame : Frame) (edge border word : ℕ) (print : Pr
       let t = none_refuses plane done one (bad_edge edge || bad_border border) fourteen quad (ap (λ (o : Painting). o.answer) (sym is_by_tests) ∙ e) in
       record {
         planes = t.0;
-        edges = or_left (bad_edge edge) (bad_border border) t.1;
-        borders = or_right (bad_edge edge) (bad_border border) t.1;
+        edges = (or_parts (bad_edge edge) (bad_border border) t.1).0;
+        borders = (or_parts (bad_edge edge) (bad_border border) t.1).1;
         prints = t.2;
       }
 

@@ -1,11 +1,9 @@
 -- The entries that paint a whole sheet, from ticket 3 of 02: "6 for the whole table; 17, ..; tested after 14's cell, turn and light. 16 ..
 -- comes after 17." Assumes nothing.
-use Rattle.std.specs.Prelude.{ℕ, not, cond, List, Float, length, Result, Ok, Err}
+use Rattle.std.specs.Prelude.{ℕ, not, cond, List, Float, length}
 use Rattle.lists.specs.Front.{in_front}
 use Rattle.refusals.specs.Outcome.{Outcome, accepted, refused, Done}
-use Rattle.refusals.specs.Numbers.{number_of}
 use Rattle.refusals.specs.Pixels.{bad_frame}
-use Rattle.refusals.specs.declared.refusal.Refusal.{Refusal}
 use Rattle.refusals.specs.declared.Frame.{Frame}
 use Rattle.tables.specs.Table.{bad_table}
 use Rattle.tables.specs.declared.Family.{Family}
@@ -17,11 +15,6 @@ use Rattle.grid.specs.Sheet.{sheet}
 use Rattle.grid.specs.Quads.{sheet_quads}
 use Rattle.grid.specs.Refused.{bad_grid, bad_output}
 use Rattle.grid.specs.declared.Grid.{Grid}
-
--- the answer of a sheet's painting in the papers' words: that it is done, or the number of its refusal
-abbrev pub done : {A : Type 0} → Result A Refusal → Outcome Done
-done (Ok _) = accepted (record {})
-done (Err refusal) = refused (number_of refusal)
 
 -- a sheet's painting: what it answers, the plane afterwards, and the output for the quads
 pub record SheetPainting : Type 0 where

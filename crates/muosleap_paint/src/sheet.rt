@@ -1,12 +1,38 @@
-// A whole sheet painted into an 8-bit plane.
-ghost use Rattle.std.specs.Prelude.{◌≡◌};
-ghost use Rattle.muosleap_paint.specs.PaintSheet.{done, painting_of, paint_sheet, paint_sheet_in};
+//! A whole sheet painted into an 8-bit plane.
+ghost use Rattle.std.specs.Prelude.{◌≡◌, false, length};
+ghost use Rattle.refusals.specs.Numbers.{done};
+ghost use Rattle.refusals.specs.Pixels.{bad_frame};
+ghost use Rattle.muosleap_paint.specs.PaintSheet.{painting_of, paint_sheet, paint_sheet_in};
 
 use grid::{Grid, Sheet};
 use painter::{Canvas, Print};
 use refusals::{Frame, Refusal};
 use tables::Family;
 use tables::checked::Table;
+
+/// What comes after the plane and the table: the refusals 14, 17 and 16, then the painting.
+#[tactic(auto, unfolding(crate::specs::PaintSheet::paint_sheet))]
+fn paint_table(
+    plane: &mut [u8],
+    frame: Frame,
+    table: Table,
+    grid: Grid,
+    print: Print,
+    quads: &mut [f32],
+) -> Result<(), Refusal>
+    requires { bad_frame (length plane.old) frame ≡ false }
+    ensures { painting_of (done result) plane.new quads.new ≡ paint_sheet plane.old frame table.entry.family table.entry.codes.now grid print quads.old }
+{
+    print.check_style()?;
+    let sheet = Sheet::new(frame, table, grid, print)?;
+    sheet.check_room(quads.len())?;
+    let mut canvas = Canvas {
+        bytes: plane,
+        frame,
+    };
+    sheet.paint(&mut canvas, quads);
+    Ok(())
+}
 
 /// The picture filled with light and a grid of the table's codes drawn into it, position 0 lower left, filler left as it is; each
 /// tag's quad, from the print's first corner clockwise, as eight numbers in the order of positions, output beyond them left as it is.
@@ -26,19 +52,11 @@ pub fn paint_sheet(
 {
     painter::check_plane(plane.len(), frame)?;
     let table = Table::new(family, codes)?;
-    print.check_style()?;
-    let sheet = Sheet::new(frame, table, grid, print)?;
-    sheet.check_room(quads.len())?;
-    let mut canvas = Canvas {
-        bytes: plane,
-        frame,
-    };
-    sheet.paint(&mut canvas, quads);
-    Ok(())
+    paint_table(plane, frame, table, grid, print, quads)
 }
 
 /// The same by family number, over the constant tables. Refusal 6 where there is no such family.
-#[tactic(auto, using(std::proofs::lemmas::Bool::Decides::nat_tests, crate::proofs::PaintSheet::sheet_in), unfolding(crate::specs::PaintSheet::paint_sheet_in))]
+#[tactic(auto, unfolding(crate::specs::PaintSheet::paint_sheet, crate::specs::PaintSheet::paint_sheet_in))]
 pub fn paint_sheet_in(
     plane: &mut [u8],
     frame: Frame,
@@ -51,5 +69,5 @@ pub fn paint_sheet_in(
 {
     painter::check_plane(plane.len(), frame)?;
     let table = tag_families::table(family)?;
-    paint_sheet(plane, frame, table.family, table.codes, grid, print, quads)
+    paint_table(plane, frame, table, grid, print, quads)
 }

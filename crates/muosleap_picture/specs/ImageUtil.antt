@@ -1,20 +1,13 @@
 -- What the entries on float planes answer and what they leave in the planes that are lent to them, for all inputs. Assumes nothing.
-use Rattle.std.specs.Prelude.{ℕ, Bool, not, ◌||◌, cond, List, length, Float, Result, Ok, Err}
+use Rattle.std.specs.Prelude.{ℕ, Bool, not, ◌||◌, cond, List, length, Float}
 use Rattle.lists.specs.Tab.{all}
 use Rattle.refusals.specs.Outcome.{Outcome, accepted, refused, Done}
-use Rattle.refusals.specs.Numbers.{number_of}
 use Rattle.refusals.specs.Plane.{bad_plane}
-use Rattle.refusals.specs.declared.refusal.Refusal.{Refusal}
 use Rattle.refusals.specs.declared.Shape.{Shape}
 use Rattle.samples.specs.Samples.{in_unit, tame}
 use Rattle.blur.specs.Blur.{bad_weights, across, down}
 use Rattle.response.specs.Response.{response}
 use Rattle.threshold.specs.Threshold.{threshold}
-
--- what a call answers that only fills planes: done, or the refusal's number
-abbrev pub done : {U : Type 0} → Result U Refusal → Outcome Done
-done (Ok u) = accepted record {}
-done (Err refusal) = refused (number_of refusal)
 
 -- refusal 1 for one plane
 abbrev pub misshapen : Shape → List Float → Bool

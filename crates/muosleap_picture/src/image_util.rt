@@ -1,8 +1,8 @@
 //! Planes of f32 samples, after the file of this name of the Rust. Each function takes any input: it answers with a refusal, and then
 //! has written nothing, or does its work.
 ghost use Rattle.std.specs.Prelude.{◌≡◌};
-ghost use Rattle.refusals.specs.Numbers.{outcome};
-ghost use Rattle.muosleap_picture.specs.ImageUtil.{done, gaussian_blur, hessian_response, response_threshold};
+ghost use Rattle.refusals.specs.Numbers.{outcome, done};
+ghost use Rattle.muosleap_picture.specs.ImageUtil.{gaussian_blur, hessian_response, response_threshold};
 
 use blur::{bad_weights, blur_across, blur_down};
 use refusals::{Refusal, Shape};

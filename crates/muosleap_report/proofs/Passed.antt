@@ -9,7 +9,7 @@ use lib.Dec.{ltb}
 use lib.Ieee.{Float}
 use lib.ListN.{length}
 use Rattle.lists.specs.Front.{in_front}
-use Rattle.lists.proofs.Bools.{or_left, or_right}
+use Rattle.std.proofs.lemmas.Bool.{or_parts}
 use Rattle.refusals.specs.Outcome.{Outcome, accepted, refused}
 use Rattle.points.specs.Numbers.{quad_size}
 use Rattle.reader.specs.Reading.{Tag}
@@ -124,8 +124,8 @@ was_read report rows corners n = go (ltb (length report) 2) (ltb most_quads coun
             two = ltb-false (length report) 2 p;
             few = ltb-false most_quads count q;
             reads_as_report = r;
-            room_rows = ltb-false (length rows) (row_size * count) (or_left short_rows short_corners s);
-            room_corners = ltb-false (length corners) (quad_size * count) (or_right short_rows short_corners s);
+            room_rows = ltb-false (length rows) (row_size * count) (or_parts short_rows short_corners s).0;
+            room_corners = ltb-false (length corners) (quad_size * count) (or_parts short_rows short_corners s).1;
           },
           cc e,
         )

@@ -1,5 +1,5 @@
-// Every public entry on reports, and nothing else. No entry demands anything of its caller: each tests its own refusals, in the order
-// of document 02, and then calls the core below.
+//! Every public entry on reports, and nothing else. No entry demands anything of its caller: each tests its own refusals, in the order
+//! of document 02, and then calls the core below.
 #![tactic(auto)]
 
 pub mod reports;

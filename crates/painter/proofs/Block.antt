@@ -8,8 +8,9 @@ use native.Mathlib.Omega.{arith}
 use borrow.Rule.Slice.PartMut.{put_mid}
 use borrow.Author.Tests.{ltb-false}
 use lib.ListN.{length, get_or}
-use Rattle.lists.proofs.Bools.{same_test, and_left, and_right, overlay}
-use Rattle.refusals.specs.Pixels.{bad_frame, place_of, column_of, line_of, is_pixel}
+use Rattle.std.specs.Cmp.{both_ways, first_so, second_so}
+use Rattle.lists.proofs.Bools.{overlay}
+use Rattle.refusals.specs.Pixels.{SmallFrame, bad_frame, place_of, column_of, line_of, is_pixel}
 use Rattle.refusals.specs.declared.Frame.{Frame}
 use Rattle.refusals.proofs.Pixels.{place_column, place_row, byte_place, place_beside, good_frame}
 use Rattle.painter.specs.Picture.{repainted, between, run_written, in_block, block_pixel, filled}
@@ -22,8 +23,8 @@ pub record In (x0 y0 wide high x y : ℕ) : Type 0 where
 
 pub is_in : (x0 y0 wide high x y : ℕ) → in_block x0 y0 wide high x y ≡ true → In x0 y0 wide high x y
 is_in x0 y0 wide high x y e = record {
-  across = is_within x0 wide x (and_left (between x0 wide x) (between y0 high y) e);
-  down = is_within y0 high y (and_right (between x0 wide x) (between y0 high y) e);
+  across = is_within x0 wide x (first_so (between x0 wide x) (between y0 high y) e);
+  down = is_within y0 high y (second_so (between x0 wide x) (between y0 high y) e);
 }
 
 pub block_in : (x0 y0 wide high x y : ℕ) → x0 ≤ x → x < x0 + wide → y0 ≤ y → y < y0 + high → in_block x0 y0 wide high x y ≡ true
@@ -64,14 +65,14 @@ module _ (frame : Frame) (x y n k : ℕ) (fits : x + n ≤ frame.width) (pitched
 
   run_block : between (place_of frame x y) n k ≡ in_block x y n 1 (column_of frame k) (line_of frame k)
   run_block =
-      same_test (between (place_of frame x y) n k) (in_block x y n 1 (column_of frame k) (line_of frame k))
+      both_ways (between (place_of frame x y) n k) (in_block x y n 1 (column_of frame k) (line_of frame k))
       (λ e. let i = run_to_block (is_within (place_of frame x y) n k e) in block_in x y n 1 (column_of frame k) (line_of frame k) i.across.from i.across.to i.down.from i.down.to)
       (λ e. let i = block_to_run (is_in x y n 1 (column_of frame k) (line_of frame k) e) in within (place_of frame x y) n k i.from i.to)
 
 -- filler is in no such run
 run_filler : (frame : Frame) (x y n k : ℕ) → x + n ≤ frame.width → frame.width ≤ frame.pitch → is_pixel frame k ≡ false → between (place_of frame x y) n k ≡ false
 run_filler frame x y n k fits pitched e =
-    same_test (between (place_of frame x y) n k) false
+    both_ways (between (place_of frame x y) n k) false
     (λ b.
     let i = run_to_block frame x y n k fits pitched (is_within (place_of frame x y) n k b) in
     let beyond = ltb-false (column_of frame k) frame.width e in
@@ -117,11 +118,24 @@ module _ (frame : Frame) (x y wide : ℕ) (new : ℕ → ℕ) (plane : List ℕ)
       overlay (in_block x y wide n px py) (in_block x (y + n) wide 1 px py) (new (px - x)) (new (px - x)) old (λ t. refl)
       ∙ ap (λ (t : Bool). cond t (new (px - x)) old) (sym (more_rows x y wide n 1 px py)))
 
--- ---- places that are small
+-- ---- one row of a block that a loop writes
 
--- a place in a picture is at most 4096 × 8192 + 4096
-pub place_le : (frame : Frame) (x y : ℕ) → frame.pitch ≤ 8192 → x ≤ 4096 → y ≤ 4096 → place_of frame x y ≤ 33558528
-place_le frame x y p a b = omega (arith, mul-le-mul b p)
+-- n pixels of line y, from (x, y) on: where they begin can be worked out, and they end within the plane of len bytes
+pub record Run (len : ℕ) (frame : Frame) (x y n : ℕ) : Type 0 where
+  pub begins : SmallFrame frame × (x ≤ 4096) × (y ≤ 4096)
+  pub inside : place_of frame x y + n ≤ len
+  -- at most 4096 × 8192 + 4096
+  pub small : place_of frame x y + n ≤ 33558528
+
+pub run_of : {len : ℕ} {frame : Frame} → bad_frame len frame ≡ false → (x y n : ℕ) → x + n ≤ frame.width → y < frame.height → Run len frame x y n
+run_of e x y n fits h =
+    let g = good_frame e in
+    let low : y ≤ 4096 = omega (arith, g.sides.height_le) in
+    record {
+      begins = (g.pitched.at_most, omega (arith, g.sides.width_le), low);
+      inside = g.run_inside x y n fits h;
+      small = omega (arith, mul-le-mul low g.pitched.at_most, g.sides.width_le);
+    }
 
 -- the block of all rows and columns has every pixel
 pub whole_block : (frame : Frame) (light : ℕ) (plane next : List ℕ) → bad_frame (length plane) frame ≡ false

@@ -7,8 +7,9 @@ use native.Mathlib.Omega.{arith}
 use lib.ListN.{length, get_or}
 use Rattle.refusals.specs.declared.Frame.{Frame}
 use Rattle.refusals.specs.Pixels.{place_of}
+use Rattle.tables.specs.Table.{side_of}
 use Rattle.painter.specs.Picture.{filled}
-use Rattle.painter.specs.Tag.{side_of, cell_at, shade_of, cell_of, size_of, tag_pixel, drawn, painted_pixel, painted}
+use Rattle.painter.specs.Tag.{cell_at, shade_of, cell_of, size_of, tag_pixel, drawn, painted_pixel, painted}
 use Rattle.painter.specs.Printable.{Printable}
 use Rattle.painter.specs.declared.Print.{Print}
 use Rattle.painter.proofs.Picture.{length-repainted, repainted_twice, pixel_repainted}

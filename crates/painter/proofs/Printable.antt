@@ -7,14 +7,14 @@ use native.Mathlib.Nat.{mul-le-mul_right}
 use native.Mathlib.Omega.{arith}
 use borrow.Author.Tests.{ltb-true, ltb-false, not-false}
 use lib.Dec.{ltb}
-use Rattle.lists.proofs.Bools.{or_left, or_right}
+use Rattle.std.proofs.lemmas.Bool.{or_parts}
 use Rattle.lists.proofs.Grid.{next_row}
 use Rattle.lists.specs.Tab.{all}
 use Rattle.refusals.specs.declared.Frame.{Frame}
 use Rattle.refusals.proofs.Pixels.{Framed, good_frame}
-use Rattle.tables.specs.Table.{outside, in_square, bad_edge, bad_border}
+use Rattle.tables.specs.Table.{outside, in_square, bad_edge, bad_border, side_of}
 use Rattle.tables.proofs.Table.{Within, good_edge, good_border}
-use Rattle.painter.specs.Tag.{side_of, size_of}
+use Rattle.painter.specs.Tag.{size_of}
 use Rattle.painter.specs.Printable.{bad_word, bad_style, ends_late, bad_place, bad_print, Printable}
 use Rattle.painter.specs.declared.Print.{Print}
 
@@ -29,13 +29,13 @@ good_style print e =
     let cells = outside 1 64 print.cell in
     let turns = ltb 3 print.turn in
     let shades = ltb print.light (print.dark + 50) in
-    let c = or_left cells (turns || shades) e in
-    let r = or_right cells (turns || shades) e in
+    let c = (or_parts cells (turns || shades) e).0 in
+    let r = (or_parts cells (turns || shades) e).1 in
     record {
-      some = ltb-false print.cell 1 (or_left (ltb print.cell 1) (ltb 64 print.cell) c);
-      small = ltb-false 64 print.cell (or_right (ltb print.cell 1) (ltb 64 print.cell) c);
-      turns = ltb-false 3 print.turn (or_left turns shades r);
-      apart = ltb-false print.light (print.dark + 50) (or_right turns shades r);
+      some = ltb-false print.cell 1 (or_parts (ltb print.cell 1) (ltb 64 print.cell) c).0;
+      small = ltb-false 64 print.cell (or_parts (ltb print.cell 1) (ltb 64 print.cell) c).1;
+      turns = ltb-false 3 print.turn (or_parts turns shades r).0;
+      apart = ltb-false print.light (print.dark + 50) (or_parts turns shades r).1;
     }
 
 -- the tag and one pixel more lie within the picture
@@ -48,8 +48,8 @@ good_place frame edge border print e =
     let size = size_of edge border print in
     let across = ends_late frame.width print.x size in
     let down = ends_late frame.height print.y size in
-    let r = ltb-false frame.width (print.x + size + 1) (or_left across down e) in
-    let l = ltb-false frame.height (print.y + size + 1) (or_right across down e) in
+    let r = ltb-false frame.width (print.x + size + 1) (or_parts across down e).0 in
+    let l = ltb-false frame.height (print.y + size + 1) (or_parts across down e).1 in
     record { right = omega arith; low = omega arith }
 
 pub record Good (len : ℕ) (frame : Frame) (edge border word : ℕ) (print : Print) : Type 0 where
@@ -72,8 +72,8 @@ print_parts frame edge border word print e =
     let w = bad_word edge word in
     let s = bad_style print in
     let q = bad_place frame edge border print in
-    let r = or_right w (s || q) e in
-    record { words = or_left w (s || q) e; styles = or_left s q r; placed = or_right s q r }
+    let r = (or_parts w (s || q) e).1 in
+    record { words = (or_parts w (s || q) e).0; styles = (or_parts s q r).0; placed = (or_parts s q r).1 }
 
 pub Good-print : {len : ℕ} {frame : Frame} {edge border word : ℕ} {print : Print} → Printable len frame edge border word print → Good len frame edge border word print
 Good-print {len} {frame} {edge} {border} {word} {print} p =

@@ -15,7 +15,8 @@ use Rattle.std.proofs.lemmas.Grind.{common_steps}
 use Rattle.std.proofs.lemmas.List.{places}
 use Rattle.lists.specs.Tab.{tabulate}
 use Rattle.lists.proofs.Tab.{length-tabulate, get_or-tabulate}
-use Rattle.lists.proofs.Bools.{and_left, and_right, overlay}
+use Rattle.std.specs.Cmp.{first_so, second_so}
+use Rattle.lists.proofs.Bools.{overlay}
 use Rattle.painter.specs.Picture.{between, run_written}
 
 -- ---- what the test of a run says
@@ -26,7 +27,7 @@ pub record Within (x0 n x : ℕ) : Type 0 where
 
 pub is_within : (x0 n x : ℕ) → between x0 n x ≡ true → Within x0 n x
 is_within x0 n x e =
-    record { from = leb-true x0 x (and_left (leb x0 x) (ltb x (x0 + n)) e); to = ltb-true x (x0 + n) (and_right (leb x0 x) (ltb x (x0 + n)) e) }
+    record { from = leb-true x0 x (first_so (leb x0 x) (ltb x (x0 + n)) e); to = ltb-true x (x0 + n) (second_so (leb x0 x) (ltb x (x0 + n)) e) }
 
 pub within : (x0 n x : ℕ) → x0 ≤ x → x < x0 + n → between x0 n x ≡ true
 within x0 n x h l = ap₂ ◌&&◌ (le-leb x0 x h) (lt-ltb x (x0 + n) l)

@@ -5,9 +5,10 @@ use mathlib.Core.Bool.{Bool, false, ◌&&◌, cond, and_comm}
 use Prim.Native.Nat.{ℕ, zero, suc, ◌+◌, ◌-◌, ◌<◌}
 use native.Mathlib.Omega.{arith}
 use lib.Dec.{eqb}
-use Rattle.lists.proofs.Bools.{same_test}
+use Rattle.std.specs.Cmp.{both_ways}
+use Rattle.tables.specs.Table.{side_of}
 use Rattle.painter.specs.Picture.{between}
-use Rattle.painter.specs.Tag.{side_of, cell_at, quarter, turned_cell, module_bit, is_light, shade_of}
+use Rattle.painter.specs.Tag.{cell_at, quarter, turned_cell, module_bit, is_light, shade_of}
 use Rattle.painter.specs.declared.Cell.{Cell}
 use Rattle.painter.specs.declared.Print.{Print}
 use Rattle.painter.proofs.Runs.{is_within, within}
@@ -69,7 +70,7 @@ module _ (edge border : ℕ) where
   -- the border is as wide on both sides
   mirrored : (n : ℕ) → n < side → between border edge (side - 1 - n) ≡ between border edge n
   mirrored n h =
-      same_test (between border edge (side - 1 - n)) (between border edge n)
+      both_ways (between border edge (side - 1 - n)) (between border edge n)
       (λ e. let i = is_within border edge (side - 1 - n) e in within border edge n (omega (arith, i.from, i.to)) (omega (arith, i.from, i.to)))
       (λ e. let i = is_within border edge n e in within border edge (side - 1 - n) (omega (arith, i.from, i.to)) (omega (arith, i.from, i.to)))
 

@@ -3,13 +3,10 @@
 use Rattle.std.specs.Prelude.{ℕ, zero, suc, ◌+◌, ◌-◌, ◌*◌, ◌/◌, Bool, ◌&&◌, cond, List, eqb}
 use Rattle.refusals.specs.declared.Frame.{Frame}
 use Rattle.word.specs.Word.{bit}
+use Rattle.tables.specs.Table.{side_of}
 use Rattle.painter.specs.Picture.{between, in_block, repainted}
 use Rattle.painter.specs.declared.Cell.{Cell}
 use Rattle.painter.specs.declared.Print.{Print}
-
--- "side = edge + 2 × border"
-abbrev pub side_of : ℕ → ℕ → ℕ
-side_of edge border = edge + 2 * border
 
 abbrev pub cell_at : ℕ → ℕ → Cell
 cell_at row column = record { row = row; column = column }

@@ -1,4 +1,4 @@
-// Planes that are painted.
+//! Planes that are painted.
 ghost use Rattle.std.specs.Prelude.{◌≡◌, true, false, ◌+◌, ◌≤◌, length, get_or, IfOk, IfErr};
 ghost use Rattle.refusals.specs.Pixels.{bad_frame};
 ghost use Rattle.painter.specs.Picture.{repainted, block_pixel, filled};
@@ -8,7 +8,8 @@ ghost use Rattle.painter.specs.Printable.{bad_place};
 use crate::Tag;
 use refusals::{Frame, Refusal};
 
-/// A lent plane that refusal 1 lets through. Filler stays as it is in all that is painted.
+/// A lent plane that refusal 1 lets through. Filler stays as it is in all that is painted. No function makes one that may be refused: a
+/// loan that was handed over for a value does not come back with a refusal.
 #[derive(Drop)]
 pub struct Canvas<'a> {
     pub bytes: &'a mut [u8],
@@ -35,13 +36,14 @@ impl<'a> Canvas<'a> {
         ensures same_loan { self.new.bytes.ghost_name ≡ self.old.bytes.ghost_name }
     {
         let frame = self.frame;
+        // Rows are cut out by their number: after a loop over `chunks_exact_mut` a proof knows no more than lengths.
         for row in 0..frame.height {
             let start = refusals::place_of(frame, 0, row);
             self.bytes[start..start + frame.width].fill(light);
         }
     }
 
-    // A block of pixels, as wide as the line and each of its rows the line's bytes.
+    /// A block of pixels, as wide as the line and each of its rows the line's bytes.
     fn copy_block(&mut self, x: usize, y: usize, high: usize, line: &[u8])
         requires across { x + length line.now ≤ self.old.frame.width }
         requires down { y + high ≤ self.old.frame.height }
@@ -56,7 +58,7 @@ impl<'a> Canvas<'a> {
         }
     }
 
-    // The tag, one row of cells after another: its line of pixels is worked out once, and copied to each row of pixels.
+    /// The tag, one row of cells after another: its line of pixels is worked out once, and copied to each row of pixels.
     fn draw_rows(&mut self, tag: Tag, line: &mut [u8])
         requires placed { bad_place self.old.frame tag.square.edge tag.square.border tag.print ≡ false }
         requires wide { length line.old ≡ size_of tag.square.edge tag.square.border tag.print }

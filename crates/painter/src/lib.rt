@@ -5,12 +5,12 @@ mod canvas;
 mod tag;
 
 ghost use Rattle.std.specs.Prelude.{◌≡◌, true, false, ◌||◌, IfOk, IfErr};
-ghost use Rattle.tables.specs.Table.{bad_edge, bad_border};
-ghost use Rattle.painter.specs.Tag.{side_of};
+ghost use Rattle.tables.specs.Table.{bad_edge, bad_border, side_of};
 ghost use Rattle.painter.specs.Printable.{bad_style, ends_late};
 
 pub use canvas::{Canvas, check_plane};
 use refusals::Refusal;
+pub use tables::side_of;
 pub use tag::{Tag, print_quad};
 
 /// What a painting takes: the upper left pixel of the tag, or of a sheet's grid, the pixels of a cell's side, the turn and the two
@@ -41,10 +41,9 @@ impl Print {
 fn bad_style(print: Print) -> bool
     ensures { result ≡ bad_style print }
 {
-    print.cell < 1
-        || 64 < print.cell
+    tables::is_outside(1, 64, print.cell)
         || 3 < print.turn
-        || (print.light as u32) < print.dark as u32 + 50
+        || print.light.saturating_sub(print.dark) < 50
 }
 
 /// A cell of a tag's square, borders included, by its row and column.
@@ -55,7 +54,7 @@ pub struct Cell {
 }
 
 /// The cells of a tag's square, checked: `edge` of them in a row of modules, and `border` of them on each side.
-#[derive(Clone, Copy)]
+#[derive(Clone, Copy, Debug, PartialEq, Eq)]
 pub struct Square {
     pub edge: u8,
     pub border: u8,
@@ -83,16 +82,9 @@ impl Square {
     }
 }
 
-/// The cells in a row of a tag's square: `edge` modules, and `border` cells on each side of them.
-pub fn side_of(edge: u8, border: u8) -> usize
-    ensures { result ≡ side_of edge border }
-{
-    edge as usize + 2 * (border as usize)
-}
-
 /// In a line of `pixels`, `size` of them from `at` on leave not one behind them.
 pub fn ends_late(pixels: usize, at: usize, size: usize) -> bool
     ensures { result ≡ ends_late pixels at size }
 {
-    pixels <= size || pixels - size <= at
+    pixels.saturating_sub(size) <= at
 }

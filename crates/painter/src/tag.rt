@@ -1,7 +1,7 @@
-// Tags that are painted: which of their cells are light, and where their corners lie.
+//! Tags that are painted: which of their cells are light, and where their corners lie.
 ghost use Rattle.std.specs.Prelude.{◌≡◌, true, false, ◌+◌, ◌<◌, ◌≤◌, eqb, length, IfOk, IfErr};
-ghost use Rattle.painter.specs.Tag.{side_of, cell_at, turned_cell, module_bit, is_light, shows_light, size_of};
-ghost use Rattle.painter.specs.Picture.{between};
+ghost use Rattle.tables.specs.Table.{side_of};
+ghost use Rattle.painter.specs.Tag.{cell_at, turned_cell, module_bit, is_light, shows_light, size_of};
 ghost use Rattle.painter.specs.Part.{row_line};
 ghost use Rattle.painter.specs.Corners.{half_before, print_quad};
 ghost use Rattle.painter.specs.Printable.{bad_word, bad_style, bad_place, bad_print};
@@ -11,7 +11,7 @@ use points::{Point, Quad};
 use refusals::{Frame, Refusal};
 
 /// A tag's painting, checked but for its place: what refusals 6 and 14 let through.
-#[derive(Clone, Copy)]
+#[derive(Clone, Copy, Debug, PartialEq, Eq)]
 pub struct Tag {
     pub square: Square,
     pub word: u64,
@@ -42,7 +42,7 @@ impl Tag {
         Ok(tag)
     }
 
-    // The tag does not end at least one pixel before the right and lower edges.
+    /// The tag does not end at least one pixel before the right and lower edges.
     fn ends_late(self, frame: Frame) -> bool
         ensures { result ≡ bad_place frame self.square.edge self.square.border self.print }
     {
@@ -59,7 +59,7 @@ impl Tag {
         self.square.side() * self.print.cell
     }
 
-    // The module in row `i` and column `j`, counted from 0 inside the border, is light: its bit of the word is 1.
+    /// The module in row `i` and column `j`, counted from 0 inside the border, is light: its bit of the word is 1.
     fn has_light_module(self, i: usize, j: usize) -> bool
         requires { (i < self.square.edge) × (j < self.square.edge) }
         ensures { result ≡ eqb (module_bit self.square.edge self.word i j) 1 }
@@ -68,21 +68,19 @@ impl Tag {
         (self.word >> (edge * edge - 1 - (i * edge + j))) & 1 == 1
     }
 
-    // The print's cell is light: it lies inside the border, and has a light module.
+    /// The print's cell is light: it lies inside the border, and has a light module.
     #[tactic(auto, unfolding(crate::specs::Tag::is_light))]
     fn is_light(self, cell: Cell) -> bool
         ensures { result ≡ is_light self.square.edge self.square.border self.word cell }
     {
-        let Square { edge, border } = self.square;
-        let edge = edge as usize;
-        let border = border as usize;
-        let Cell { row, column } = cell;
-        lies_in(border, edge, row)
-            && lies_in(border, edge, column)
-            && self.has_light_module(row - border, column - border)
+        let border = self.square.border as usize;
+        let modules = border..border + self.square.edge as usize;
+        modules.contains(&cell.row)
+            && modules.contains(&cell.column)
+            && self.has_light_module(cell.row - border, cell.column - border)
     }
 
-    // The cell that the picture has in `row` and `column` of the tag is light.
+    /// The cell that the picture has in `row` and `column` of the tag is light.
     fn shows_light(self, row: usize, column: usize) -> bool
         requires { (row < side_of self.square.edge self.square.border) × (column < side_of self.square.edge self.square.border) }
         ensures { result ≡ shows_light self.square.edge self.square.border self.word self.print (cell_at row column) }
@@ -90,7 +88,8 @@ impl Tag {
         self.is_light(turned_cell(self.square.side(), self.print.turn, row, column))
     }
 
-    // A line of the tag's pixels through a row of cells. The border is dark: only modules are tested.
+    /// A line of the tag's pixels through a row of cells. The columns of the border are dark, so that no cell in them is tested; in the
+    /// border's own rows the cells between them are tested, and found dark.
     pub(crate) fn write_line(self, line: &mut [u8], row: usize)
         requires inside { row < side_of self.square.edge self.square.border }
         requires wide { length line.old ≡ size_of self.square.edge self.square.border self.print }
@@ -117,7 +116,8 @@ impl Tag {
     }
 }
 
-/// The outer corners of a tag of this edge and border, clockwise from the print's first.
+/// The outer corners of a tag of this edge and border, clockwise from the print's first. It is promised of any edge and border, which a
+/// `Square` is not.
 pub fn print_quad(edge: u8, border: u8, print: Print) -> Quad
     requires across { print.x + size_of edge border print ≤ 4096 }
     requires down { print.y + size_of edge border print ≤ 4096 }
@@ -140,14 +140,7 @@ pub fn print_quad(edge: u8, border: u8, print: Print) -> Quad
     points::rotate_left(quad, print.turn)
 }
 
-// `n` is one of the `count` numbers from `first` on.
-fn lies_in(first: usize, count: usize, n: usize) -> bool
-    ensures { result ≡ between first count n }
-{
-    first <= n && n - first < count
-}
-
-// The print's row and column of the cell that the picture has in `row` and `column`.
+/// The print's row and column of the cell that the picture has in `row` and `column`.
 fn turned_cell(side: usize, turn: u8, row: usize, column: usize) -> Cell
     requires { (row < side) × (column < side) × (turn ≤ 3) }
     ensures { result ≡ turned_cell side turn (cell_at row column) }
@@ -169,7 +162,7 @@ fn turned_cell(side: usize, turn: u8, row: usize, column: usize) -> Cell
     }
 }
 
-// n - 1/2
+/// n - 1/2
 fn half_before(n: usize) -> f32
     requires { n ≤ 4096 }
     ensures { result ≡ half_before n }

@@ -7,7 +7,7 @@ use native.Mathlib.Omega.{arith}
 use borrow.Author.Tests.{lt-leb}
 use lib.Arith.{digits_div, digits_mod}
 use lib.Dec.{leb}
-use Rattle.lists.proofs.Bools.{or_neither}
+use Rattle.std.proofs.lemmas.Bool.{or_from}
 use Rattle.lists.proofs.Grid.{square_row, square_column}
 use Rattle.refusals.specs.declared.Frame.{Frame}
 use Rattle.points.specs.declared.Point.{Point}
@@ -52,11 +52,11 @@ corner u v = record { x = half_before u; y = half_before v }
 
 good_corner : (u v : ℕ) → u ≤ 4096 → v ≤ 4096 → bad_corner (corner u v) ≡ false
 good_corner u v hu hv =
-    or_neither (bad_coordinate (half_before u)) (bad_coordinate (half_before v)) (half_good (half_before u) u (omega arith) (half_is u)) (half_good (half_before v) v (omega arith) (half_is v))
+    or_from (bad_coordinate (half_before u)) (bad_coordinate (half_before v)) (half_good (half_before u) u (omega arith) (half_is u)) (half_good (half_before v) v (omega arith) (half_is v))
 
 near_corner : (width height u v : ℕ) → u < width → v < height → corner_outside width height (corner u v) ≡ false
 near_corner width height u v hu hv =
-    or_neither (leb width (pixel_of (half_before u))) (leb height (pixel_of (half_before v)))
+    or_from (leb width (pixel_of (half_before u))) (leb height (pixel_of (half_before v)))
     (ap (leb width) (half_pixel (half_before u) u (half_is u)) ∙ lt-leb width u hu) (ap (leb height) (half_pixel (half_before v) v (half_is v)) ∙ lt-leb height v hv)
 
 module _ (len : ℕ) (frame : Frame) (edge border word : ℕ) (print : Print) (p : Printable len frame edge border word print) where

@@ -8,7 +8,7 @@ use native.Mathlib.Omega.{arith}
 use borrow.Author.Tests.{ltb-true, ltb-false}
 use lib.Dec.{ltb}
 use lib.ListN.{length, get_or}
-use Rattle.lists.proofs.Bools.{or_right}
+use Rattle.std.proofs.lemmas.Bool.{or_parts}
 use Rattle.refusals.specs.Outcome.{Outcome, accepted, refused}
 use Rattle.refusals.specs.Pixels.{bad_frame}
 use Rattle.refusals.specs.declared.Frame.{Frame}
@@ -40,7 +40,7 @@ best_tag_is word threshold codes edge p = simp p
 -- the codes of a table that refusal 6 lets through
 coded : (family : Family) (codes : List ℕ) → bad_table family codes ≡ false → bad_codes family.edge family.hamming_distance codes ≡ false
 unfolding bad_table
-coded family codes e = or_right (bad_border family.border) (bad_codes family.edge family.hamming_distance codes) e
+coded family codes e = (or_parts (bad_border family.border) (bad_codes family.edge family.hamming_distance codes) e).1
 
 module _ (word threshold : ℕ) (codes : List ℕ) (edge : ℕ) where
   good : (seen : Seen) → best_tag word threshold codes edge ≡ accepted seen → (bad_codes edge threshold codes ≡ false) × (search word threshold codes edge ≡ accepted seen)

@@ -7,7 +7,7 @@ use Prim.Native.Nat.{ℕ, zero, suc, ◌+◌, ◌-◌, ◌/◌, ◌<◌}
 use lib.Dec.{leb, eqb}
 use lib.ListN.{length, get_or}
 use Rattle.lists.specs.Each.{each}
-use Rattle.lists.proofs.Bools.{same_test}
+use Rattle.std.specs.Cmp.{both_ways}
 use Rattle.lists.proofs.Each.{each_at, each_of}
 use Rattle.lists.proofs.Tab.{length-tabulate, get_or-tabulate}
 use Rattle.refusals.specs.declared.Frame.{Frame}
@@ -52,7 +52,7 @@ module _ (light : ℕ) (p l : List ℕ) (σ : ℕ → ℕ) (same : length p ≡ 
 
   all_cleared : each (length (reordered σ l)) cleared' ≡ each (length l) cleared
   all_cleared =
-      same_test (each (length (reordered σ l)) cleared') (each (length l) cleared)
+      both_ways (each (length (reordered σ l)) cleared') (each (length l) cleared)
       (λ all. each_of (length l) cleared (λ j h.
       let s = reorders_onto (length l) σ keeps j h in
       ap cleared (sym s.to) ∙ sym (moved s.k s.below) ∙ each_at (length (reordered σ l)) cleared' all s.k (subst (λ (n : ℕ). s.k < n) (sym size) s.below)))

@@ -10,7 +10,7 @@ use lib.Dec.{ltb, eqb}
 use lib.ListN.{length, get_or, take, drop, length-append, length-drop, get_or-append}
 use lib.Seq.{length-take-le, get_or-take, get_or-drop, get_or-append-add, ext_get_or}
 use Rattle.lists.proofs.Grid.{next_row}
-use Rattle.lists.proofs.Bools.{or_left, or_neither}
+use Rattle.std.proofs.lemmas.Bool.{or_parts, or_from}
 use Rattle.refusals.specs.Plane.{bad_sides, bad_plane}
 use Rattle.refusals.specs.Pixels.{packed_frame, bad_pitch, bytes_of, bad_frame, level_at}
 use Rattle.refusals.specs.declared.Frame.{Frame}
@@ -99,7 +99,7 @@ good_lines frame len e =
     let w = frame.width in
     let h = frame.height in
     let rest = bad_pitch w frame.pitch || not (eqb len (bytes_of frame)) in
-    or_neither (bad_sides w h) (not (eqb (h * w) (w * h))) (or_left (bad_sides w h) rest e) (ap not (eq-eqb (h * w) (w * h) (mul_comm h w)))
+    or_from (bad_sides w h) (not (eqb (h * w) (w * h))) (or_parts (bad_sides w h) rest e).0 (ap not (eq-eqb (h * w) (w * h) (mul_comm h w)))
 
 module _ (plane : List ℕ) (frame : Frame) (good : bad_frame (length plane) frame ≡ false) where
   pub framed : Framed (length plane) frame

@@ -11,7 +11,7 @@ use borrow.Author.Tests.{leb-true, eq-eqb, ne_eqb}
 use lib.Dec.{ltb, eqb}
 use lib.ListN.{length, get_or}
 use Rattle.lists.specs.Each.{each}
-use Rattle.lists.proofs.Bools.{and_left, and_right}
+use Rattle.std.specs.Cmp.{first_so, second_so}
 use Rattle.lists.proofs.Each.{each_at}
 use Rattle.refusals.specs.Outcome.{accepted}
 use Rattle.refusals.specs.Pixels.{bad_frame}
@@ -20,7 +20,7 @@ use Rattle.points.specs.declared.Quad.{Quad}
 use Rattle.points.specs.Turned.{turned_left, answer_corners}
 use Rattle.tables.specs.declared.Family.{Family}
 use Rattle.word.specs.Word.{bit, differing}
-use Rattle.word.proofs.Bits.{bit-lt}
+use Rattle.std.proofs.lemmas.Nat.Bits.{bit_at-lt}
 use Rattle.places.specs.Corners.{corners_outside}
 use Rattle.places.specs.Place.{axes_of}
 use Rattle.levels.specs.Levels.{greatest_of, least_of, middle_of}
@@ -70,15 +70,15 @@ module _ (family : Family) (codes : List ℕ) (id w : ℕ) (printed : Printed fa
 
   apart_enough : contrasts levels ≡ true
   unfolding is_lit lit_levels
-  apart_enough = and_left (contrasts levels) (each (length levels) cleared) lit
+  apart_enough = first_so (contrasts levels) (each (length levels) cleared) lit
 
   all_clear : each (length levels) cleared ≡ true
   unfolding is_lit lit_levels
-  all_clear = and_right (contrasts levels) (each (length levels) cleared) lit
+  all_clear = second_so (contrasts levels) (each (length levels) cleared) lit
 
   clear : (k : ℕ) → k < length levels → Clear (middle_of levels) clearance (bit w (length levels - 1 - k)) (get_or levels k 0)
   clear k h =
-      Clear-of (middle_of levels) light dark (get_or printing k 0) (bit w (length levels - 1 - k)) (get_or levels k 0) apart (bit-lt w (length levels - 1 - k))
+      Clear-of (middle_of levels) light dark (get_or printing k 0) (bit w (length levels - 1 - k)) (get_or levels k 0) apart (bit_at-lt w (length levels - 1 - k))
       (shades k (subst (λ (n : ℕ). k < n) size h) ∙ ap (λ (n : ℕ). shade_of_bit light dark (bit w (n - 1 - k))) (sym size))
       (each_at (length levels) cleared all_clear k h)
 

@@ -13,7 +13,7 @@ use Rattle.lists.specs.Sum.{sum}
 use Rattle.lists.proofs.Each.{each_at}
 use Rattle.lists.proofs.Sum.{sum_ext, sum_plus}
 use Rattle.word.specs.Word.{bit, differing_in}
-use Rattle.word.proofs.Bits.{bit-lt}
+use Rattle.std.proofs.lemmas.Nat.Bits.{bit_at-lt}
 
 -- a place where a test fails
 pub record Fails (n : ℕ) (ok : ℕ → Bool) : Type 0 where
@@ -70,7 +70,7 @@ module _ (n w code t : ℕ) (near : differing_in n w code < t) where
   unfolding differing_in
   all_one o =
       sym (sum_plus n (λ k. differ (bit w k) (bit code k)) (bit code))
-      ∙ sum_ext n (λ k. differ (bit w k) (bit code k) + bit code k) (λ k. 1) (λ k l. ap (λ (x : ℕ). differ x (bit code k) + bit code k) (o k l) ∙ one_less (bit code k) (bit-lt code k))
+      ∙ sum_ext n (λ k. differ (bit w k) (bit code k) + bit code k) (λ k. 1) (λ k l. ap (λ (x : ℕ). differ x (bit code k) + bit code k) (o k l) ∙ one_less (bit code k) (bit_at-lt code k))
       ∙ each_one n
 
   pub Has-one : t ≤ sum n (bit code) → Has n w 1
@@ -80,7 +80,7 @@ module _ (n w code t : ℕ) (near : differing_in n w code < t) where
       go true e = absurd (omega (arith, all_zero (λ k l. eqb-true (bit w k) 0 (each_at n (λ k. eqb (bit w k) 0) e k l))))
       go false e =
           let f = Fails-at n (λ k. eqb (bit w k) 0) e in
-          record { place = f.at; inside = f.below; is = other (bit w f.at) (bit-lt w f.at) (eqb-false (bit w f.at) 0 f.fails) }
+          record { place = f.at; inside = f.below; is = other (bit w f.at) (bit_at-lt w f.at) (eqb-false (bit w f.at) 0 f.fails) }
 
   pub Has-zero : t ≤ n - sum n (bit code) → Has n w 0
   Has-zero h = go (each n (λ k. eqb (bit w k) 1)) refl
@@ -89,4 +89,4 @@ module _ (n w code t : ℕ) (near : differing_in n w code < t) where
       go true e = absurd (omega (arith, all_one (λ k l. eqb-true (bit w k) 1 (each_at n (λ k. eqb (bit w k) 1) e k l))))
       go false e =
           let f = Fails-at n (λ k. eqb (bit w k) 1) e in
-          record { place = f.at; inside = f.below; is = none_other (bit w f.at) (bit-lt w f.at) (eqb-false (bit w f.at) 1 f.fails) }
+          record { place = f.at; inside = f.below; is = none_other (bit w f.at) (bit_at-lt w f.at) (eqb-false (bit w f.at) 1 f.fails) }

@@ -10,7 +10,7 @@ use lib.Ieee.{Float}
 use lib.ListN.{length, get_or}
 use Rattle.lists.specs.Tab.{tabulate}
 use Rattle.lists.proofs.Rows.{tabulate_ext}
-use Rattle.lists.proofs.Bools.{and_left, and_right}
+use Rattle.std.specs.Cmp.{first_so, second_so}
 use Rattle.refusals.specs.Outcome.{Outcome, accepted, refused, Done}
 use Rattle.refusals.specs.Pixels.{packed_frame, bad_frame, place_of, level_at}
 use Rattle.refusals.specs.declared.Frame.{Frame}
@@ -51,7 +51,7 @@ module _ (plane : List ℕ) (frame : Frame) (good : bad_frame (length plane) fra
       let y = row (axes_of quad) family k in
       let wide = ltb x frame.width in
       let high = ltb y frame.height in
-      sym (pixel_without plane frame good x y (ltb-true x frame.width (and_left wide high inside)) (ltb-true y frame.height (and_right wide high inside)))
+      sym (pixel_without plane frame good x y (ltb-true x frame.width (first_so wide high inside)) (ltb-true y frame.height (second_so wide high inside)))
 
   reading-lines : (quad : Quad) → reading plane frame family codes quad ≡ reading (without_filler frame plane) (packed frame) family codes quad
   reading-lines quad = reading_depends plane (without_filler frame plane) frame frame.width family codes quad (agree quad)

@@ -11,7 +11,7 @@ use lib.Dec.{eqb}
 use lib.Ieee.{Float}
 use lib.ListN.{length, get_or}
 use Rattle.lists.proofs.All.{all_of}
-use Rattle.lists.proofs.Bools.{or_cases}
+use Rattle.std.proofs.lemmas.Bool.{or_cases}
 use Rattle.lists.proofs.Flat.{front_left}
 use Rattle.refusals.specs.Outcome.{Outcome, accepted, refused}
 use Rattle.refusals.specs.declared.Frame.{Frame}

@@ -9,7 +9,7 @@ use borrow.Author.Tests.{lt-ltb, ltb-true}
 use lib.Dec.{ltb}
 use lib.Ieee.{Float}
 use lib.ListN.{length, get_or}
-use Rattle.lists.proofs.Bools.{and_left, and_right}
+use Rattle.std.specs.Cmp.{first_so, second_so}
 use Rattle.refusals.specs.Outcome.{accepted}
 use Rattle.refusals.specs.Pixels.{bad_frame, level_at}
 use Rattle.refusals.specs.declared.Frame.{Frame}
@@ -113,7 +113,7 @@ module _ (family : Family) (codes : List ℕ) (grid : Grid) (print : Print) (pla
       let y = row (axes_of quad) family k in
       let wide = ltb x frame.width in
       let high = ltb y frame.height in
-      square x y (ltb-true x frame.width (and_left wide high inside)) (ltb-true y frame.height (and_right wide high inside))
+      square x y (ltb-true x frame.width (first_so wide high inside)) (ltb-true y frame.height (second_so wide high inside))
       (print_square (length plane) frame family word tag prints k l)
 
   same_levels : levels_of shown frame family (axes_of quad) ≡ levels_of alone frame family (axes_of quad)

@@ -20,6 +20,7 @@ use Rattle.points.specs.Turned.{turned_left}
 use Rattle.points.proofs.Turns.{turned_add, turned_rest}
 use Rattle.tables.specs.declared.Family.{Family}
 use Rattle.word.specs.Word.{bit}
+use Rattle.tables.specs.Table.{side_of}
 use Rattle.places.specs.Rounding.{in_1024ths}
 use Rattle.places.specs.Place.{axis_of, axes_of, module_place, sample_pixel}
 use Rattle.places.proofs.Off.{sample_stays}
@@ -27,7 +28,7 @@ use Rattle.places.proofs.Painted.{place_across, place_down}
 use Rattle.painter.specs.Corners.{outer_corners, print_quad}
 use Rattle.painter.specs.Picture.{in_block}
 use Rattle.painter.specs.Printable.{Printable}
-use Rattle.painter.specs.Tag.{side_of, size_of, module_bit, painted}
+use Rattle.painter.specs.Tag.{size_of, module_bit, painted}
 use Rattle.painter.specs.declared.Cell.{Cell}
 use Rattle.painter.specs.declared.Print.{Print}
 use Rattle.painter.proofs.Block.{In, is_in, block_in}

@@ -5,13 +5,14 @@ use Rattle.refusals.specs.declared.Frame.{Frame}
 use Rattle.points.specs.declared.Point.{Point}
 use Rattle.points.specs.declared.Quad.{Quad}
 use Rattle.tables.specs.declared.Family.{Family}
+use Rattle.tables.specs.Table.{side_of}
 use Rattle.places.specs.Rounding.{in_1024ths}
 use Rattle.places.specs.Corners.{bad_corners, corners_outside}
 use Rattle.places.specs.Place.{axes_of}
 use Rattle.painter.specs.Corners.{print_quad}
 use Rattle.painter.specs.Picture.{in_block}
 use Rattle.painter.specs.Printable.{Printable}
-use Rattle.painter.specs.Tag.{side_of, size_of, cell_of}
+use Rattle.painter.specs.Tag.{size_of, cell_of}
 use Rattle.painter.specs.declared.Print.{Print}
 use Rattle.reader.specs.Reading.{samples, column, row}
 use Rattle.paper.specs.Demand3.{Painted, ReadsOwn}

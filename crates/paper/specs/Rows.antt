@@ -8,8 +8,9 @@ use Rattle.refusals.specs.declared.Shape.{Shape}
 use Rattle.word.specs.Word.{turns}
 use Rattle.points.specs.declared.Point.{Point}
 use Rattle.points.specs.declared.Quad.{Quad}
+use Rattle.tables.specs.Table.{side_of}
 use Rattle.places.specs.declared.Axis.{Axis}
-use Rattle.places.specs.Place.{axes_of, module_place, module_pixel, side_of}
+use Rattle.places.specs.Place.{axes_of, module_place, module_pixel}
 use Rattle.levels.specs.Levels.{middle_of, unsure}
 use Rattle.search.specs.Search.{Seen}
 use Rattle.tag_families.specs.Families.{family_of, codes_of}

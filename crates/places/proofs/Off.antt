@@ -6,9 +6,11 @@ use native.Mathlib.Nat.{le_of_eq, le_trans, mul-le-mul_left, mul-le-mul_right, l
 use native.Mathlib.Omega.{arith}
 use lib.IntN.{ℤ, pos, negsuc, ◌+ℤ◌, ◌-ℤ◌, ◌*ℤ◌, nat_abs}
 use Rattle.lists.proofs.Grid.{square_row, square_column}
+use Rattle.tables.specs.Table.{side_of}
 use Rattle.places.specs.Rounding.{to_pixel}
-use Rattle.places.specs.Place.{axis_of, from_middle, module_place, side_of, sample_pixel}
-use Rattle.places.proofs.Whole.{abs_plus, abs_times}
+use Rattle.places.specs.Place.{axis_of, from_middle, module_place, sample_pixel}
+use Rattle.std.proofs.lemmas.Int.{unsigned_abs-mul}
+use Rattle.places.proofs.Whole.{abs_plus}
 use Rattle.places.proofs.Diff.{above, below, diff, Diff-pos, Diff-plus, Diff-minus, Diff-times, Diff-same, Diff-abs, Diff-abs_two, Diff-near}
 use Rattle.places.proofs.Small.{middle}
 
@@ -88,7 +90,7 @@ abs_four a b c d = omega (arith, abs_plus a b, abs_plus (a +ℤ b) c, abs_plus (
 -- corners p, each at most e off corners q
 module _ (e : ℕ) (q0 q1 q2 q3 p0 p1 p2 p3 : ℤ) (n0 : nat_abs (p0 -ℤ q0) ≤ e) (n1 : nat_abs (p1 -ℤ q1) ≤ e) (n2 : nat_abs (p2 -ℤ q2) ≤ e) (n3 : nat_abs (p3 -ℤ q3) ≤ e) where
   one_moves : (p q x : ℤ) → nat_abs (p -ℤ q) ≤ e → nat_abs (p *ℤ x -ℤ q *ℤ x) ≤ e * nat_abs x
-  one_moves p q x h = le_trans (le_of_eq (ap nat_abs (times_minus p q x) ∙ abs_times (p -ℤ q) x)) (mul-le-mul_right (nat_abs x) h)
+  one_moves p q x h = le_trans (le_of_eq (ap nat_abs (times_minus p q x) ∙ unsigned_abs-mul (p -ℤ q) x)) (mul-le-mul_right (nat_abs x) h)
 
   four_move : (x y z w : ℤ) (n : ℕ) → nat_abs x + nat_abs y + nat_abs z + nat_abs w ≤ n
       → nat_abs ((p0 *ℤ x +ℤ p1 *ℤ y +ℤ p2 *ℤ z +ℤ p3 *ℤ w) -ℤ (q0 *ℤ x +ℤ q1 *ℤ y +ℤ q2 *ℤ z +ℤ q3 *ℤ w)) ≤ e * n

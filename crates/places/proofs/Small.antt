@@ -8,7 +8,7 @@ use borrow.Author.Tests.{leb-false}
 use lib.IntN.{ℤ, pos, neg_ℤ, ◌+ℤ◌, ◌*ℤ◌, nat_abs}
 use lib.Ieee.{Float, nan, inf, fin, up, down}
 use lib.Ieee.Fits.{down_pos}
-use Rattle.lists.proofs.Bools.{or_left, or_right}
+use Rattle.std.proofs.lemmas.Bool.{or_parts}
 use Rattle.points.specs.declared.Point.{Point}
 use Rattle.points.specs.declared.Quad.{Quad}
 use Rattle.points.proofs.Any.{no_corner}
@@ -17,7 +17,8 @@ use Rattle.places.specs.Rounding.{nearest, signed, bad_coordinate, in_1024ths}
 use Rattle.places.specs.Corners.{bad_corner, bad_corners}
 use Rattle.places.specs.Place.{axis_of, axes_of, from_middle, module_place}
 use Rattle.places.specs.Bounds.{SmallAxis, Module}
-use Rattle.places.proofs.Whole.{abs_neg, abs_plus, abs_times}
+use Rattle.std.proofs.lemmas.Int.{unsigned_abs-mul}
+use Rattle.places.proofs.Whole.{abs_neg, abs_plus}
 use Rattle.places.proofs.Diff.{Diff, Diff-pos, Diff-plus, Diff-minus, Diff-abs}
 
 abs_signed : (s : Bool) (n : ℕ) → nat_abs (signed s n) ≡ n
@@ -55,10 +56,10 @@ axis_small q0 q1 q2 q3 h0 h1 h2 h3 =
 
 -- those of a quad that refusal 8 lets through
 pub x_good : (p : Point) → bad_corner p ≡ false → bad_coordinate p.x ≡ false
-x_good p e = or_left (bad_coordinate p.x) (bad_coordinate p.y) e
+x_good p e = (or_parts (bad_coordinate p.x) (bad_coordinate p.y) e).0
 
 pub y_good : (p : Point) → bad_corner p ≡ false → bad_coordinate p.y ≡ false
-y_good p e = or_right (bad_coordinate p.x) (bad_coordinate p.y) e
+y_good p e = (or_parts (bad_coordinate p.x) (bad_coordinate p.y) e).1
 
 pub axes_small : (q : Quad) → bad_corners q ≡ false → SmallAxis (axes_of q).x × SmallAxis (axes_of q).y
 axes_small q good =
@@ -83,12 +84,12 @@ pub middle_small : (side i : ℕ) → side ≤ 16 → i < side → nat_abs (from
 middle_small side i h l = Diff-abs 16 (middle side i) (omega arith) (omega arith)
 
 term_small : (side i : ℕ) (z : ℤ) → side ≤ 16 → i < side → nat_abs z ≤ 2 ^ 26 → nat_abs (from_middle side i *ℤ z) ≤ 16 * 2 ^ 26
-term_small side i z h l k = le_trans (le_of_eq (abs_times (from_middle side i) z)) (mul-le-mul (middle_small side i h l) k)
+term_small side i z h l k = le_trans (le_of_eq (unsigned_abs-mul (from_middle side i) z)) (mul-le-mul (middle_small side i h l) k)
 
 -- so the dividend of a place fits 32 bits
 pub place_small : (axis : Axis) (side i j : ℕ) → Module axis side i j → nat_abs (module_place axis side i j) ≤ 3 * 2 ^ 30
 place_small axis side i j m =
-    let s : nat_abs (axis.s *ℤ pos side) ≤ 2 ^ 26 * 16 = le_trans (le_of_eq (abs_times axis.s (pos side))) (mul-le-mul m.small.s_small m.side_le) in
+    let s : nat_abs (axis.s *ℤ pos side) ≤ 2 ^ 26 * 16 = le_trans (le_of_eq (unsigned_abs-mul axis.s (pos side))) (mul-le-mul m.small.s_small m.side_le) in
     omega (
       arith,
       s,

@@ -4,14 +4,16 @@ use mathlib.Core.Path.{◌≡◌, sym, ap, ap₂, ◌∙◌}
 use Prim.Native.Nat.{ℕ, ◌+◌, ◌-◌, ◌*◌, ◌/◌, ◌%◌, ◌<◌}
 use native.Mathlib.Omega.{arith}
 use lib.IntN.{ℤ, pos, neg_ℤ, ◌+ℤ◌, ◌-ℤ◌, ◌*ℤ◌}
-use Rattle.lists.proofs.Grid.{row_of, column_of_lem, square_row}
+use Rattle.std.proofs.lemmas.Nat.{div-mul-add, mod-mul-add}
+use Rattle.lists.proofs.Grid.{square_row}
 use Rattle.points.specs.declared.Quad.{Quad}
 use Rattle.points.specs.Turned.{turned_once, turned_left}
 use Rattle.points.proofs.Any.{any_turned}
+use Rattle.tables.specs.Table.{side_of}
 use Rattle.places.specs.declared.Axis.{Axis}
 use Rattle.places.specs.Rounding.{to_pixel, in_1024ths}
 use Rattle.places.specs.Corners.{bad_corner, bad_corners, corner_outside, corners_outside}
-use Rattle.places.specs.Place.{axis_of, axes_of, from_middle, module_place, module_pixel, side_of, sample_pixel}
+use Rattle.places.specs.Place.{axis_of, axes_of, from_middle, module_place, module_pixel, sample_pixel}
 use Rattle.places.proofs.Diff.{diff, Diff-neg, Diff-plus, Diff-minus, Diff-times, Diff-same}
 use Rattle.places.proofs.Small.{middle}
 
@@ -72,8 +74,8 @@ module _ (q0 q1 q2 q3 : ℤ) where
       let i : border + k / edge < side_of edge border = omega arith in
       let e : side_of edge border - 1 - (border + k / edge) ≡ border + (edge - 1 - k / edge) = omega arith in
       ap (λ (z : ℤ). to_pixel z (4096 * side_of edge border)) (place_turned (side_of edge border) (border + k / edge) (border + k % edge) i)
-      ∙ ap₂ (λ (x y : ℕ). module_pixel first (side_of edge border) (border + x) y) (sym (row_of edge (k % edge) (edge - 1 - k / edge) c))
-      (e ∙ ap (λ (n : ℕ). border + n) (sym (column_of_lem edge (k % edge) (edge - 1 - k / edge) c)))
+      ∙ ap₂ (λ (x y : ℕ). module_pixel first (side_of edge border) (border + x) y) (sym (div-mul-add (k % edge) edge (edge - 1 - k / edge) c))
+      (e ∙ ap (λ (n : ℕ). border + n) (sym (mod-mul-add (k % edge) edge (edge - 1 - k / edge) c)))
 
 -- sample k of the quad that starts one corner later is the sample of the first quad from which one turn of a word takes place k
 module _ (q : Quad) (edge border k : ℕ) (h : k < edge * edge) where

@@ -1,8 +1,8 @@
--- Whole numbers with a sign, as an i64 holds them. Assumes nothing.
+-- Whole numbers with a sign, as an i64 holds them. The magnitude of a product is the library's `unsigned_abs-mul`. Assumes nothing.
 use mathlib.Core.Path.{◌≡◌, refl, sym, ap, ap₂, ◌∙◌, subst}
 use mathlib.Core.Bool.{Bool, true, false, cond}
 use Prim.Native.Nat.{ℕ, zero, suc, ◌+◌, ◌-◌, ◌*◌, ◌^◌, ◌<◌, ◌≤◌}
-use native.Mathlib.Nat.{le_of_eq, le_trans, mul-le-mul}
+use native.Mathlib.Nat.{mul-le-mul}
 use native.Mathlib.Omega.{arith}
 use lib.Dec.{ltb}
 use borrow.Author.Tests.{ltb-true}
@@ -10,6 +10,7 @@ use lib.IntN.{ℤ, pos, negsuc, neg_ℤ, sub_ℕ, ◌+ℤ◌, ◌-ℤ◌, ◌*�
 use mir.Syntax.{w64}
 use mir.Val.{SFits, to_z, of_z}
 use mir.ValLaws.{to_z_pos, to_z-of_z}
+use Rattle.std.proofs.lemmas.Int.{unsigned_abs-mul, fits_signed_from_abs}
 
 -- ---- magnitudes
 
@@ -31,17 +32,7 @@ abs_plus (pos a) (negsuc b) = abs_sub a (suc b)
 abs_plus (negsuc a) (pos b) = omega (arith, abs_sub b (suc a))
 abs_plus (negsuc a) (negsuc b) = omega arith
 
-pub abs_times : (x y : ℤ) → nat_abs (x *ℤ y) ≡ nat_abs x * nat_abs y
-abs_times (pos a) (pos b) = refl
-abs_times (pos a) (negsuc b) = abs_neg (pos (a * suc b))
-abs_times (negsuc a) (pos b) = abs_neg (pos (suc a * b))
-abs_times (negsuc a) (negsuc b) = refl
-
 -- ---- what an i64 holds
-
-held : (z : ℤ) → nat_abs z < 2 ^ 63 → SFits w64 z
-held (pos n) h = record { sfits = h }
-held (negsuc n) h = record { sfits = omega arith }
 
 -- the bits v are the number z, of magnitude n at most
 pub record Held (v : ℕ) (z : ℤ) (n : ℕ) : Type 0 where
@@ -49,7 +40,7 @@ pub record Held (v : ℕ) (z : ℤ) (n : ℕ) : Type 0 where
   pub within : nat_abs z ≤ n
 
 pub number : (r z : ℤ) (n : ℕ) → r ≡ z → n < 2 ^ 63 → nat_abs z ≤ n → Held (of_z w64 r) z n
-number r z n e l h = record { is = ap (λ (x : ℤ). to_z w64 (of_z w64 x)) e ∙ to_z-of_z w64 z (held z (omega arith)); within = h }
+number r z n e l h = record { is = ap (λ (x : ℤ). to_z w64 (of_z w64 x)) e ∙ to_z-of_z w64 z (fits_signed_from_abs w64 z (omega arith)); within = h }
 
 pub natural : (k n : ℕ) → n < 2 ^ 63 → k ≤ n → Held k (pos k) n
 natural k n l h = record { is = to_z_pos w64 k (omega arith); within = h }
@@ -62,7 +53,7 @@ module _ {v u n m : ℕ} {x y : ℤ} (p : Held v x n) (q : Held u y m) where
   made : (op : ℤ → ℤ → ℤ) (k : ℕ) → nat_abs (op x y) ≤ k → k < 2 ^ 63 → Made op v u (op x y) k
   made op k h l =
       let e : op (to_z w64 v) (to_z w64 u) ≡ op x y = ap₂ op p.is q.is in
-      let f : SFits w64 (op (to_z w64 v) (to_z w64 u)) = subst (SFits w64) (sym e) (held (op x y) (omega arith)) in
+      let f : SFits w64 (op (to_z w64 v) (to_z w64 u)) = subst (SFits w64) (sym e) (fits_signed_from_abs w64 (op x y) (omega arith)) in
       (f, record { is = to_z-of_z w64 (op (to_z w64 v) (to_z w64 u)) f ∙ e; within = h })
 
   pub plus : n + m < 2 ^ 63 → Made ◌+ℤ◌ v u (x +ℤ y) (n + m)
@@ -72,4 +63,4 @@ module _ {v u n m : ℕ} {x y : ℤ} (p : Held v x n) (q : Held u y m) where
   minus = made ◌-ℤ◌ (n + m) (omega (arith, abs_plus x (neg_ℤ y), abs_neg y, p.within, q.within))
 
   pub times : n * m < 2 ^ 63 → Made ◌*ℤ◌ v u (x *ℤ y) (n * m)
-  times = made ◌*ℤ◌ (n * m) (le_trans (le_of_eq (abs_times x y)) (mul-le-mul p.within q.within))
+  times = made ◌*ℤ◌ (n * m) (omega (arith, unsigned_abs-mul x y, mul-le-mul p.within q.within))

@@ -1,6 +1,7 @@
 -- Where the modules of a quad lie, "for x and y each". Assumes nothing.
 use Rattle.std.specs.Prelude.{ℕ, ◌+◌, ◌*◌, ◌/◌, ◌%◌, ℤ, pos, ◌+ℤ◌, ◌-ℤ◌, ◌*ℤ◌}
 use Rattle.points.specs.declared.Quad.{Quad}
+use Rattle.tables.specs.Table.{side_of}
 use Rattle.places.specs.Rounding.{to_pixel, in_1024ths}
 use Rattle.places.specs.declared.Axis.{Axis}
 use Rattle.places.specs.declared.Axes.{Axes}
@@ -29,10 +30,6 @@ module_place axis side i j = axis.s *ℤ pos side +ℤ from_middle side i *ℤ a
 
 abbrev pub module_pixel : Axis → ℕ → ℕ → ℕ → ℕ
 module_pixel axis side i j = to_pixel (module_place axis side i j) (4096 * side)
-
--- "Let side = edge + 2 × border"
-abbrev pub side_of : ℕ → ℕ → ℕ
-side_of edge border = edge + 2 * border
 
 -- sample k of edge²: "Samples run i outer, j inner, each from border to border + edge − 1."
 abbrev pub sample_pixel : Axis → ℕ → ℕ → ℕ → ℕ

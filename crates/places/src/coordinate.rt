@@ -13,14 +13,14 @@ pub struct Coordinate {
     ghost bounded: { bad_coordinate value ≡ false },
 }
 
-// Refusal 8 for one coordinate.
+/// Refusal 8 for one coordinate.
 fn bad_coordinate(x: f32) -> bool
     ensures { result ≡ bad_coordinate x }
 {
     !(-16384.0 < x && x < 16384.0)
 }
 
-// The magnitude of the float with this bit pattern, times 2^digits, to the nearest whole number.
+/// The magnitude of the float with this bit pattern, times 2^digits, to the nearest whole number.
 fn nearest_times(pattern: u32, digits: u32) -> u32
     requires { (pattern % 2 ^ 31 / 2 ^ 23 ≤ 140) × (digits ≤ 10) }
     ensures { result ≡ nearest_times (2 ^ digits) (of_bits binary32 pattern) }

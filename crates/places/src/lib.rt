@@ -4,17 +4,15 @@
 mod coordinate;
 mod corners;
 
-ghost use Rattle.std.specs.Prelude.{◌≡◌, false, ◌*◌, ◌^◌, ◌<◌, ◌≤◌, nat_abs};
+ghost use Rattle.std.specs.Prelude.{◌≡◌, ◌*◌, ◌^◌, ◌<◌, ◌≤◌, nat_abs};
 ghost use Rattle.places.specs.Rounding.{in_1024ths};
-ghost use Rattle.places.specs.Corners.{bad_corners, corners_outside};
-ghost use Rattle.places.specs.Place.{axis_of, axes_of, from_middle, module_place, module_pixel};
+ghost use Rattle.places.specs.Place.{axis_of, from_middle, module_place, module_pixel};
 ghost use Rattle.places.specs.Bounds.{Module};
 
 use coordinate::Coordinate;
 pub use corners::Corners;
-use points::Quad;
 
-/// S, A and B of four x or of four y, in 1024ths of a pixel.
+/// S, A and B of four x or of four y, in 1024ths of a pixel. It holds no bound: the definitions make one of any corners.
 #[derive(Clone, Copy, Debug, PartialEq, Eq)]
 pub struct Axis {
     pub s: i64,
@@ -29,15 +27,8 @@ pub struct Axes {
     pub y: Axis,
 }
 
-/// Refusal 8.
-pub fn bad_corners(quad: Quad) -> bool
-    ensures { result ≡ bad_corners quad }
-{
-    Corners::new(quad).is_err()
-}
-
 impl Axis {
-    // That of the x or of the y of four corners.
+    /// That of the x or of the y of four corners.
     fn between(x0: Coordinate, x1: Coordinate, x2: Coordinate, x3: Coordinate) -> Axis
         ensures { result ≡ axis_of (in_1024ths x0.value) (in_1024ths x1.value) (in_1024ths x2.value) (in_1024ths x3.value) }
     {
@@ -52,7 +43,7 @@ impl Axis {
         }
     }
 
-    // The dividend of the place of module (i, j); the divisor is 4096 * side.
+    /// The dividend of the place of module (i, j); the divisor is 4096 * side.
     fn place(self, side: usize, i: usize, j: usize) -> i64
         requires { Module self side i j }
         ensures value { result ≡ module_place self side i j }
@@ -75,34 +66,10 @@ impl Axis {
     }
 }
 
-// 2i - side + 1
+/// 2i - side + 1, which is twice how far module i lies from the middle of the tag, counted in modules.
 fn from_middle(side: usize, i: usize) -> i64
     requires { (side ≤ 16) × (i < side) }
     ensures { result ≡ from_middle side i }
 {
     2 * (i as i64) - (side as i64) + 1
-}
-
-/// Refusal 9, on the corners as given.
-pub fn corners_outside(quad: Quad, width: usize, height: usize) -> bool
-    requires { bad_corners quad ≡ false }
-    ensures { result ≡ corners_outside width height quad }
-{
-    Corners::new(quad).unwrap().is_outside(width, height)
-}
-
-/// S, A and B of a quad that refusal 8 lets through.
-pub fn axes_of(quad: Quad) -> Axes
-    requires { bad_corners quad ≡ false }
-    ensures { result ≡ axes_of quad }
-{
-    Corners::new(quad).unwrap().axes()
-}
-
-/// The pixel column or row of module (i, j).
-pub fn pixel(axis: Axis, side: usize, i: usize, j: usize) -> usize
-    requires { Module axis side i j }
-    ensures { result ≡ module_pixel axis side i j }
-{
-    axis.pixel(side, i, j)
 }

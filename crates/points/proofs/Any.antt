@@ -2,7 +2,7 @@
 use mathlib.Core.Path.{◌≡◌, refl, sym, ap, ◌∙◌}
 use mathlib.Core.Bool.{Bool, false, ◌||◌, or_comm, or_assoc}
 use Prim.Native.Nat.{ℕ, zero, suc}
-use Rattle.lists.proofs.Bools.{or_left, or_right}
+use Rattle.std.proofs.lemmas.Bool.{or_parts}
 use Rattle.points.specs.declared.Point.{Point}
 use Rattle.points.specs.declared.Quad.{Quad}
 use Rattle.points.specs.Turned.{turned_left, answer_corners, any_corner}
@@ -42,6 +42,6 @@ no_corner test q e =
     let b = test q.q1 in
     let c = test q.q2 in
     let d = test q.q3 in
-    let e₃ = or_left (a || b || c) d e in
-    let e₂ = or_left (a || b) c e₃ in
-    record { at0 = or_left a b e₂; at1 = or_right a b e₂; at2 = or_right (a || b) c e₃; at3 = or_right (a || b || c) d e }
+    let e₃ = (or_parts (a || b || c) d e).0 in
+    let e₂ = (or_parts (a || b) c e₃).0 in
+    record { at0 = (or_parts a b e₂).0; at1 = (or_parts a b e₂).1; at2 = (or_parts (a || b) c e₃).1; at3 = (or_parts (a || b || c) d e).1 }

@@ -1,41 +1,20 @@
 -- A quad's numbers, written one after the other. Assumes nothing.
-use mathlib.Core.Path.{◌≡◌, refl, sym, ap, ◌∙◌}
-use mathlib.Core.List.{List, [], ◌∷◌, ◌++◌}
-use Prim.Native.Nat.{ℕ, suc, ◌+◌, ◌*◌, ◌<◌}
-use native.Mathlib.Numerals.{add-one}
+use mathlib.Core.Path.{◌≡◌, refl, sym, ap, ap₂, ◌∙◌}
+use mathlib.Core.List.{List, ◌++◌, append_assoc}
+use Prim.Native.Nat.{ℕ, ◌+◌, ◌*◌, ◌<◌, ◌≤◌}
 use native.Mathlib.Omega.{arith}
 use lib.Ieee.{Float, nan}
-use lib.ListN.{length, get_or, set, drop_of_length-le}
-use lib.Seq.{sets, sets-eq}
-use Rattle.lists.proofs.Part.{part_read}
-use Rattle.points.specs.declared.Point.{Point}
+use lib.ListN.{length, get_or, take, drop}
+use lib.Seq.{sets, sets-eq, drop-drop}
+use Rattle.lists.proofs.Part.{back, part_read}
 use Rattle.points.specs.declared.Quad.{Quad}
 use Rattle.points.specs.Numbers.{quad_size, point_at, quad_at, numbers_of, corners_at}
 
-pub two_stores {ℓ} : {A : Type ℓ} (l : List A) (at : ℕ) (a b : A) → set (set l at a) (at + 1) b ≡ sets l at (a ∷ b ∷ [])
-two_stores l at a b = ap (λ (n : ℕ). set (set l at a) n b) (add-one at)
-
--- the numbers of a corner
-abbrev pub two : Point → List Float
-two p = p.x ∷ p.y ∷ []
-
--- four corners, one after the other, are a quad
-pub four_corners : (quad : Quad) (at : ℕ) (l l₁ l₂ l₃ l₄ : List Float)
-    → l₁ ≡ sets l at (two quad.q0) → l₂ ≡ sets l₁ (at + 2) (two quad.q1) → l₃ ≡ sets l₂ (at + 4) (two quad.q2) → l₄ ≡ sets l₃ (at + 6) (two quad.q3)
-    → l₄ ≡ sets l at (numbers_of quad)
-four_corners quad at l l₁ l₂ l₃ l₄ e₁ e₂ e₃ e₄ =
-    let i₂ : at + 2 ≡ suc (suc at) = omega arith in
-    let i₄ : at + 4 ≡ suc (suc (suc (suc at))) = omega arith in
-    let i₆ : at + 6 ≡ suc (suc (suc (suc (suc (suc at))))) = omega arith in
-    e₄
-    ∙ ap (λ (x : List Float). sets x (at + 6) (two quad.q3)) (e₃ ∙ ap (λ (x : List Float). sets x (at + 4) (two quad.q2)) (e₂ ∙ ap (λ (x : List Float). sets x (at + 2) (two quad.q1)) e₁))
-    ∙ (λ j. sets (sets (sets (sets l at (two quad.q0)) (i₂ j) (two quad.q1)) (i₄ j) (two quad.q2)) (i₆ j) (two quad.q3))
-
--- a quad's numbers fill a list of eight
-pub filled : (quad : Quad) (l : List Float) → length l ≡ quad_size → sets l 0 (numbers_of quad) ≡ numbers_of quad
-filled quad l eight =
-    sets-eq (numbers_of quad) l 0 (omega (arith, eight))
-    ∙ ap (λ (rest : List Float). numbers_of quad ++ rest) (drop_of_length-le l {i = 8} (omega (arith, eight)))
+-- a part that was lent, and comes back as vs, is those stores
+pub part_stores {ℓ} : {A : Type ℓ} (l vs ys : List A) (at k : ℕ) → ys ≡ vs → k ≡ length vs → at + length vs ≤ length l → back l at k ys ≡ sets l at vs
+part_stores l vs ys at k same wide fits =
+    ap₂ (back l at) wide same ∙ ap (λ (rest : List _). take at l ++ (vs ++ rest)) (drop-drop (length vs) at l)
+    ∙ sym (append_assoc (take at l) vs (drop (at + length vs) l)) ∙ sym (sets-eq vs l at fits)
 
 -- the quad whose numbers stand at place q of a list
 module _ (l : List Float) (q : ℕ) (quad : Quad) (e : corners_at l q ≡ numbers_of quad) where

@@ -1,7 +1,7 @@
 //! Corners: "a corner is a struct of two floats", and a quad is four of them. y grows downward.
 #![tactic(auto)]
 
-ghost use Rattle.std.specs.Prelude.{◌≡◌, [], ◌∷◌, ◌+◌, ◌*◌, ◌≤◌, length};
+ghost use Rattle.std.specs.Prelude.{◌≡◌, ◌+◌, ◌*◌, ◌≤◌, length};
 ghost use Rattle.std.proofs.lemmas.List.Edits.{sets};
 ghost use Rattle.points.specs.Turned.{turned_left, reversed, answer_corners};
 ghost use Rattle.points.specs.Numbers.{quad_size, point_at, quad_at, numbers_of};
@@ -23,6 +23,18 @@ pub struct Quad {
     pub q1: Point,
     pub q2: Point,
     pub q3: Point,
+}
+
+/// Its corners' numbers, one corner after the other.
+impl From<Quad> for [f32; QUAD_SIZE] {
+    ghost use Rattle.points.specs.Numbers.{numbers_of};
+
+    ghost from_gives = { λ quad numbers. numbers ≡ numbers_of quad };
+
+    fn from(quad: Quad) -> [f32; QUAD_SIZE] {
+        let Quad { q0, q1, q2, q3 } = quad;
+        [q0.x, q0.y, q1.x, q1.y, q2.x, q2.y, q3.x, q3.y]
+    }
 }
 
 /// The quad turned left by `turn`: start `turn` of it, for a turn from 0 to 3.
@@ -72,7 +84,7 @@ pub fn answer_corners(quad: Quad, turn: u8) -> Quad
     reverse(rotate_left(quad, turn))
 }
 
-// The corner at place `at` of a list of numbers.
+/// The corner at place `at` of a list of numbers.
 fn point_at(numbers: &[f32], at: usize) -> Point
     requires { at + 2 ≤ length numbers.now }
     ensures { result ≡ point_at numbers.now at }
@@ -96,23 +108,12 @@ pub fn quad_at(quads: &[f32], q: usize) -> Quad
     Quad { q0, q1, q2, q3 }
 }
 
-// A corner's two numbers, at place `at` of a list.
-fn put_point(numbers: &mut [f32], at: usize, p: Point)
-    requires { at + 2 ≤ length numbers.old }
-    ensures { numbers.new ≡ sets numbers.old at (p.x ∷ p.y ∷ []) }
-{
-    numbers[at] = p.x;
-    numbers[at + 1] = p.y;
-}
-
 /// A quad's eight numbers, as quad q of a list.
+#[tactic(auto, using(crate::proofs::Numbers::part_stores))]
 pub fn put_quad(quads: &mut [f32], q: usize, quad: Quad)
     requires { quad_size * q + quad_size ≤ length quads.old }
     ensures { quads.new ≡ sets quads.old (quad_size * q) (numbers_of quad) }
 {
     let at = QUAD_SIZE * q;
-    put_point(quads, at, quad.q0);
-    put_point(quads, at + 2, quad.q1);
-    put_point(quads, at + 4, quad.q2);
-    put_point(quads, at + 6, quad.q3);
+    quads[at..at + QUAD_SIZE].copy_from_slice(&<[f32; QUAD_SIZE]>::from(quad));
 }

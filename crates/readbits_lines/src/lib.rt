@@ -1,7 +1,7 @@
-// What `readbits` prints for the bytes that it has read.
+//! What `readbits` prints for the bytes that it has read.
 #![tactic(auto)]
 
-ghost use Rattle.std.specs.Prelude.{◌≡◌, Some, None, cond, [], ◌∷◌, ◌++◌, ◌+◌, ◌*◌, ◌≤◌, length};
+ghost use Rattle.std.specs.Prelude.{◌≡◌, Some, None, cond, [], ◌∷◌, ◌++◌, ◌+◌, ◌*◌, ◌≤◌, ◌<◌, length, IfSome};
 ghost use Rattle.readbits_lines.specs.Word.{is_digit, digit_number, is_word, number_of};
 ghost use Rattle.text.specs.Text.{line_feed};
 ghost use Rattle.search.specs.Answer.{paper_match};
@@ -11,9 +11,10 @@ ghost use Rattle.text.specs.Put.{Put, HasRoom, Printed};
 use search::Match;
 use text::Output;
 
-// The number of a digit, "0 to 9 or A to F".
+/// The number of a digit, "0 to 9 or A to F": the match on two ranges that document 01 names.
 fn digit(byte: u8) -> Option<u64>
-    ensures { result ≡ cond (is_digit byte) (Some (digit_number byte)) None }
+    ensures number { result ≡ cond (is_digit byte) (Some (digit_number byte)) None }
+    ensures below { IfSome result (λ n. n < 16) }
 {
     match byte {
         b'0'..=b'9' => Some((byte - b'0') as u64),
@@ -22,21 +23,17 @@ fn digit(byte: u8) -> Option<u64>
     }
 }
 
-// The word of a line, "four digits".
+/// The word of a line, "four digits", the first one the highest.
 fn word(line: &[u8]) -> Option<u64>
     ensures { result ≡ cond (is_word line.now) (Some (number_of line.now)) None }
 {
-    if line.len() != 4 {
+    let [a, b, c, d] = line else {
         return None;
-    }
-    let mut bits = 0;
-    for byte in line {
-        bits = bits * 16 + digit(*byte)?;
-    }
-    Some(bits)
+    };
+    Some(digit(*a)? * 4096 + digit(*b)? * 256 + digit(*c)? * 16 + digit(*d)?)
 }
 
-// The search for a word among the codes of T16H5, which is family 0.
+/// The search for a word among the codes of T16H5, which is family 0.
 fn search_t16h5(bits: u64) -> Option<Match>
     ensures { paper_match result ≡ searched bits }
 {
@@ -45,7 +42,7 @@ fn search_t16h5(bits: u64) -> Option<Match>
     search::best_tag(bits, family.hamming_distance, codes, family.edge).found
 }
 
-// Puts what follows a word, id and turn or `none`, and ends the line.
+/// Puts what follows a word, id and turn or `none`, and ends the line.
 fn put_answer(bits: u64, output: &mut Output)
     requires { HasRoom output.old 7 }
     ensures { Put (after_word (searched bits) ++ (line_feed ∷ [])) output.old output.new }
@@ -59,7 +56,7 @@ fn put_answer(bits: u64, output: &mut Output)
     output.put_byte(b'\n');
 }
 
-// Puts what a line prints.
+/// Puts what a line prints.
 fn put_line(line: &[u8], output: &mut Output)
     requires { HasRoom output.old 4 × HasRoom output.old (4 * length line.now) }
     ensures { Put (printed_line line.now) output.old output.new }
@@ -79,16 +76,9 @@ pub fn read_lines(input: &[u8], out: &mut [u8]) -> usize
     ensures { Printed (readbits input.now) out.old out.new result }
 {
     let mut output = Output { bytes: out, at: 0 };
-    let mut start = 0;
-    for (at, byte) in input.iter().enumerate() {
-        let ends_line = *byte == b'\n';
-        if ends_line {
-            put_line(&input[start..at], &mut output);
-            start = at + 1;
-        }
-    }
-    if start < input.len() {
-        put_line(&input[start..], &mut output);
+    // A line comes with its line feed; nothing after the last line feed makes a line.
+    for line in input.split_inclusive(|byte| *byte == b'\n') {
+        put_line(line.strip_suffix(b"\n").unwrap_or(line), &mut output);
     }
     output.at
 }

@@ -7,7 +7,7 @@ use Prim.Native.Nat.{ℕ, ◌-◌, ◌≤◌, ◌<◌}
 use native.Mathlib.Omega.{arith}
 use lib.Dec.{ltb}
 use lib.ListN.{length}
-use Rattle.lists.proofs.Bools.{test}
+use Rattle.std.proofs.lemmas.Bool.{cases_Bool}
 use Rattle.refusals.specs.Outcome.{Outcome, accepted, refused}
 use Rattle.refusals.specs.declared.Frame.{Frame}
 use Rattle.points.specs.declared.Quad.{Quad}
@@ -75,4 +75,4 @@ module _ (family : Family) (codes : List ℕ) (table : bad_table family codes �
       (λ good. reading_cases plane frame family codes quad (Answers codes)
       (omega arith, omega arith) (omega arith, omega arith) (omega arith, omega arith)
       (tag_answers good (code_of levels 10 3) (code_answers levels 10 3)))
-      (test (bad_corners quad))
+      (cases_Bool (bad_corners quad))

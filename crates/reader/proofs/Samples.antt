@@ -1,6 +1,6 @@
 -- One sample, from its row and column in the square, and all of them. Assumes nothing.
 use mathlib.Core.Path.{◌≡◌, refl, sym, ap, ap₂, ◌∙◌, subst}
-use mathlib.Core.Bool.{Bool, true, false, ◌&&◌, cond, and-false, true≢false}
+use mathlib.Core.Bool.{Bool, true, false, ◌&&◌, cond, and-false}
 use mathlib.Core.List.{List}
 use Rattle.std.specs.Prelude.{Option, Some, None}
 use Prim.Native.Nat.{ℕ, ◌+◌, ◌*◌, ◌<◌, ◌≤◌}
@@ -15,24 +15,25 @@ use Rattle.lists.specs.Tab.{tabulate}
 use Rattle.lists.specs.Each.{each}
 use Rattle.lists.proofs.Tab.{written_none, written_more}
 use Rattle.lists.proofs.Each.{each_none, each_more, each_fails}
-use Rattle.lists.proofs.Grid.{row_of, column_of_lem}
+use Rattle.std.proofs.lemmas.Nat.{div-mul-add, mod-mul-add}
 use Rattle.word.proofs.Turn.{place_lt}
 use Rattle.refusals.specs.Pixels.{level_at}
 use Rattle.refusals.specs.declared.Frame.{Frame}
 use Rattle.points.specs.declared.Quad.{Quad}
 use Rattle.tables.specs.declared.Family.{Family}
+use Rattle.tables.specs.Table.{side_of}
 use Rattle.places.specs.declared.Axis.{Axis}
 use Rattle.places.specs.declared.Axes.{Axes}
 use Rattle.places.specs.Corners.{bad_corners}
-use Rattle.places.specs.Place.{side_of, axes_of, module_pixel, sample_pixel}
+use Rattle.places.specs.Place.{axes_of, module_pixel, sample_pixel}
 use Rattle.places.proofs.Small.{axes_small}
 use Rattle.reader.specs.Reading.{samples, column, row, sample_inside, samples_inside, levels_of}
-use Rattle.reader.specs.Sampling.{SmallAxes, sample_of, Sampled}
+use Rattle.reader.specs.Sampling.{SmallAxes, sample_of}
 
 -- the sample at row i and column j of the square
 pub sample_place : (axis : Axis) (edge border i j : ℕ) → j < edge → sample_pixel axis edge border (i * edge + j) ≡ module_pixel axis (side_of edge border) (border + i) (border + j)
 sample_place axis edge border i j h =
-    ap₂ (λ (a b : ℕ). module_pixel axis (side_of edge border) (border + a) (border + b)) (row_of edge i j h) (column_of_lem edge i j h)
+    ap₂ (λ (a b : ℕ). module_pixel axis (side_of edge border) (border + a) (border + b)) (div-mul-add i edge j h) (mod-mul-add i edge j h)
 
 module _ (plane : List ℕ) (frame : Frame) (family : Family) (axes : Axes) (k x y : ℕ) (ex : x ≡ column axes family k) (ey : y ≡ row axes family k) where
   abbrev picked : Bool → Option ℕ
@@ -103,21 +104,17 @@ module _ (plane : List ℕ) (frame : Frame) (family : Family) (axes : Axes) wher
         size = length-set levels k v ∙ s.size;
       })
 
-  pub some_outside : (k : ℕ) (levels : List ℕ) → length levels ≡ 64 → k < samples family → None ≡ sample_of plane frame family axes k → Sampled plane frame family axes false levels
+  pub some_outside : (k : ℕ) → k < samples family → None ≡ sample_of plane frame family axes k → false ≡ samples_inside frame family axes
   unfolding samples_inside
-  some_outside k levels z h e = record {
-    inside = sym (each_fails (samples family) (sample_inside frame family axes) k h (outside_is k e));
-    sampled = λ t. absurd (true≢false (sym t));
-    size = z;
-  }
+  some_outside k h e = sym (each_fails (samples family) (sample_inside frame family axes) k h (outside_is k e))
 
-  pub all_sampled : (k : ℕ) (levels : List ℕ) → k ≡ samples family → SoFar plane frame family axes k levels → Sampled plane frame family axes true levels
-  unfolding samples_inside levels_of
-  all_sampled k levels e s = record {
-    inside = s.all_inside ∙ ap (λ (n : ℕ). each n (sample_inside frame family axes)) e;
-    sampled = λ _. subst (λ (n : ℕ). take n levels ≡ tabulate n (λ k. level_at plane frame (column axes family k) (row axes family k))) e s.written;
-    size = s.size;
-  }
+  pub all_inside : (k : ℕ) (levels : List ℕ) → k ≡ samples family → SoFar plane frame family axes k levels → true ≡ samples_inside frame family axes
+  unfolding samples_inside
+  all_inside k levels e s = s.all_inside ∙ ap (λ (n : ℕ). each n (sample_inside frame family axes)) e
+
+  pub all_sampled : (k : ℕ) (levels : List ℕ) → k ≡ samples family → SoFar plane frame family axes k levels → take (samples family) levels ≡ levels_of plane frame family axes
+  unfolding levels_of
+  all_sampled k levels e s = subst (λ (n : ℕ). take n levels ≡ tabulate n (λ k. level_at plane frame (column axes family k) (row axes family k))) e s.written
 
 -- the part of the array that holds the levels
 pub part_size : (family : Family) (levels : List ℕ) → 0 < family.edge → family.edge ≤ 8 → length levels ≡ 64
@@ -128,6 +125,7 @@ part_size family levels p h z =
     (l, sym (length-take-le (samples family) levels l), mul-pos p p, m)
 
 -- where all samples lie in the picture, the part of the array is their levels
-pub levels_are : {plane : List ℕ} {frame : Frame} {family : Family} {axes : Axes} {levels : List ℕ} (quad : Quad) → Sampled plane frame family axes true levels → axes ≡ axes_of quad
+pub levels_are : (plane : List ℕ) (frame : Frame) (family : Family) (axes : Axes) (levels : List ℕ) (quad : Quad)
+    → true ≡ samples_inside frame family axes → take (samples family) levels ≡ levels_of plane frame family axes → axes ≡ axes_of quad
     → (samples_inside frame family (axes_of quad) ≡ true) × (take (samples family) levels ≡ levels_of plane frame family (axes_of quad))
-levels_are {plane} {frame} {family} quad s e = (ap (samples_inside frame family) (sym e) ∙ sym s.inside, s.sampled refl ∙ ap (levels_of plane frame family) e)
+levels_are plane frame family axes levels quad inside sampled e = (ap (samples_inside frame family) (sym e) ∙ sym inside, sampled ∙ ap (levels_of plane frame family) e)

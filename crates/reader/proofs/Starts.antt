@@ -9,7 +9,7 @@ use Rattle.lists.proofs.Rows.{tabulate_ext}
 use Rattle.lists.specs.Tab.{tabulate}
 use Rattle.lists.specs.Each.{each}
 use Rattle.lists.proofs.Tab.{length-tabulate, get_or-tabulate}
-use Rattle.lists.proofs.Bools.{same_test}
+use Rattle.std.specs.Cmp.{both_ways}
 use Rattle.lists.proofs.Each.{each_at, each_of}
 use Rattle.refusals.specs.Outcome.{Outcome, accepted, refused}
 use Rattle.refusals.specs.Pixels.{level_at}
@@ -42,7 +42,7 @@ module _ (family : Family) (q : Quad) where
     pub inside_turned : samples_inside frame family (axes_of (turned_once q)) ≡ samples_inside frame family (axes_of q)
     unfolding samples_inside
     inside_turned =
-        same_test (each (samples family) (sample_inside frame family (axes_of (turned_once q)))) (each (samples family) (sample_inside frame family (axes_of q)))
+        both_ways (each (samples family) (sample_inside frame family (axes_of (turned_once q)))) (each (samples family) (sample_inside frame family (axes_of q)))
         (λ all. each_of (samples family) (sample_inside frame family (axes_of q)) (λ k h.
         let s = source family.edge in
         let l = source-lt family.edge (s (s k)) (source-lt family.edge (s k) (source-lt family.edge k h)) in

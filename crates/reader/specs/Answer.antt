@@ -1,6 +1,6 @@
 -- The answer of a reading in the papers' numbers. Assumes nothing.
-use Rattle.std.specs.Prelude.{Result, Ok, Err}
-use Rattle.refusals.specs.Numbers.{number_of}
+use Rattle.std.specs.Prelude.{Result}
+use Rattle.refusals.specs.Numbers.{outcome_by}
 use Rattle.refusals.specs.Outcome.{Outcome, accepted, refused}
 use Rattle.refusals.specs.declared.refusal.Refusal.{Refusal}
 use Rattle.search.specs.Search.{Seen}
@@ -15,5 +15,4 @@ paper_reading (Refused n) = refused n
 
 -- the code that is found, before its corners
 abbrev pub paper_read : Result Match Refusal → Outcome Seen
-paper_read (Ok m) = accepted (record { id = m.id; turn = m.turn; differing = m.differing })
-paper_read (Err refusal) = refused (number_of refusal)
+paper_read answer = outcome_by (λ (m : Match). accepted (record { id = m.id; turn = m.turn; differing = m.differing })) answer

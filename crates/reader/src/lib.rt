@@ -1,10 +1,10 @@
 //! Quad to tag: the samples of a quad on an 8-bit plane, their levels, the word that they make, and the code that it shows.
 #![tactic(auto)]
 
-ghost use Rattle.std.specs.Prelude.{◌≡◌, ◌+◌, ◌*◌, ◌≤◌, ◌<◌, is_ok, IfErr};
-ghost use Rattle.reader.specs.Reading.{with_corners, reading};
+ghost use Rattle.std.specs.Prelude.{◌≡◌, ◌+◌, ◌*◌, ◌≤◌, ◌<◌, take, is_ok, IfOk, IfErr};
+ghost use Rattle.reader.specs.Reading.{samples, samples_inside, levels_of, with_corners, reading};
 ghost use Rattle.reader.specs.Answer.{paper_read, paper_reading};
-ghost use Rattle.reader.specs.Sampling.{SmallAxes, sample_of, Sampled};
+ghost use Rattle.reader.specs.Sampling.{SmallAxes, sample_of};
 
 use places::{Axes, Corners};
 use points::Quad;
@@ -13,7 +13,8 @@ use search::Match;
 use tables::Family;
 use tables::checked::Table;
 
-/// What a reading of a quad answers: a tag with its corners, or the number of a refusal.
+/// What a reading of a quad answers: a tag with its corners, or the number of a refusal. It is the form that document 01 names, and so no
+/// `Result`.
 #[derive(Clone, Copy, Debug, PartialEq)]
 pub enum Reading {
     Tag {
@@ -45,41 +46,33 @@ fn sample_at(picture: &Picture, family: Family, axes: Axes, i: usize, j: usize) 
     ensures { result ≡ sample_of picture.now.bytes.now picture.now.frame family axes (i * family.edge + j) }
 {
     let border = family.border as usize;
-    let side = family.edge as usize + 2 * border;
+    let side = tables::side_of(family.edge, family.border);
     let x = axes.x.pixel(side, border + i, border + j);
     let y = axes.y.pixel(side, border + i, border + j);
-    if picture.frame.width <= x {
-        return None;
-    }
-    if picture.frame.height <= y {
+    if picture.frame.width <= x || picture.frame.height <= y {
         return None;
     }
     Some(picture.level(x, y))
 }
 
-/// The levels of the samples, in their order from the start of `levels` on. Refuses a sample outside the picture.
-pub fn sample_levels(
-    picture: &Picture,
-    family: Family,
-    axes: Axes,
-    levels: &mut [u8; 64],
-) -> Result<(), Refusal>
+/// The levels of the samples, in their order from the first on. Refuses a sample outside the picture.
+pub fn sample_levels(picture: &Picture, family: Family, axes: Axes) -> Result<[u8; 64], Refusal>
     requires edge { (0 < family.edge) × (family.edge ≤ 8) }
     requires border { family.border ≤ 4 }
     requires small { SmallAxes axes }
-    ensures sampled { Sampled picture.now.bytes.now picture.now.frame family axes (is_ok result) levels.new }
+    ensures inside { is_ok result ≡ samples_inside picture.now.frame family axes }
+    ensures sampled { IfOk result (λ levels. take (samples family) levels ≡ levels_of picture.now.bytes.now picture.now.frame family axes) }
     ensures refused { IfErr result (λ e. e ≡ Refusal.SampleOutside) }
 {
     let edge = family.edge as usize;
+    let mut levels = [0; 64];
     for i in 0..edge {
         for j in 0..edge {
-            let Some(level) = sample_at(picture, family, axes, i, j) else {
-                return Err(Refusal::SampleOutside);
-            };
-            levels[i * edge + j] = level;
+            let sample = sample_at(picture, family, axes, i, j);
+            levels[i * edge + j] = sample.ok_or(Refusal::SampleOutside)?;
         }
     }
-    Ok(())
+    Ok(levels)
 }
 
 /// The code that a quad shows in a picture: the refusals in their order, then what the search finds. Band 10, three unsure modules allowed.
@@ -91,8 +84,7 @@ fn read(picture: &Picture, table: &Table, quad: Quad) -> Result<Match, Refusal>
         return Err(Refusal::CornerOutside);
     }
     let family = table.family;
-    let mut levels = [0u8; 64];
-    sample_levels(picture, family, corners.axes(), &mut levels)?;
+    let levels = sample_levels(picture, family, corners.axes())?;
     let edge = family.edge as usize;
     let bits = levels::bit_code(&levels[..edge * edge], 10, 3)?;
     search::best_tag(bits, family.hamming_distance, table.codes, family.edge)

@@ -2,12 +2,13 @@
 use mathlib.Core.Path.{◌≡◌, ap}
 use mathlib.Core.Bool.{false, not, ◌||◌}
 use Prim.Native.Nat.{ℕ, ◌+◌, ◌-◌, ◌*◌, ◌<◌, ◌≤◌}
-use native.Mathlib.Nat.{div-lt_iff_lt-mul, mul_comm, mul-le-mul, mul-le-mul_right, div-add-mod'}
+use native.Mathlib.Nat.{div-lt_iff_lt-mul, mul_comm, mul-le-mul_right, div-add-mod'}
 use native.Mathlib.Omega.{arith}
 use borrow.Author.Tests.{eqb-true, ltb-false, not-false}
 use lib.Dec.{ltb, eqb}
-use Rattle.lists.proofs.Bools.{or_left, or_right}
-use Rattle.lists.proofs.Grid.{row_of, column_of_lem, next_row}
+use Rattle.std.proofs.lemmas.Bool.{or_parts}
+use Rattle.std.proofs.lemmas.Nat.{div-mul-add, mod-mul-add}
+use Rattle.lists.proofs.Grid.{next_row}
 use Rattle.refusals.specs.Pixels.{bad_pitch, bytes_of, bad_frame, place_of, column_of, line_of}
 use Rattle.refusals.specs.Plane.{bad_sides}
 use Rattle.refusals.specs.declared.Frame.{Frame}
@@ -16,10 +17,10 @@ use Rattle.refusals.proofs.Plane.{Sides, good_sides}
 module _ (frame : Frame) where
   -- a pixel's column and row, from its byte
   pub place_column : (x y : ℕ) → x < frame.pitch → column_of frame (place_of frame x y) ≡ x
-  place_column x y h = column_of_lem frame.pitch y x h
+  place_column x y h = mod-mul-add y frame.pitch x h
 
   pub place_row : (x y : ℕ) → x < frame.pitch → line_of frame (place_of frame x y) ≡ y
-  place_row x y h = row_of frame.pitch y x h
+  place_row x y h = div-mul-add y frame.pitch x h
 
   -- and back
   pub byte_place : (k : ℕ) → place_of frame (column_of frame k) (line_of frame k) ≡ k
@@ -37,13 +38,9 @@ pub record Pitched (width pitch : ℕ) : Type 0 where
 
 pub good_pitch : (width pitch : ℕ) → bad_pitch width pitch ≡ false → Pitched width pitch
 good_pitch width pitch e = record {
-  at_least = ltb-false pitch width (or_left (ltb pitch width) (ltb 8192 pitch) e);
-  at_most = ltb-false 8192 pitch (or_right (ltb pitch width) (ltb 8192 pitch) e);
+  at_least = ltb-false pitch width (or_parts (ltb pitch width) (ltb 8192 pitch) e).0;
+  at_most = ltb-false 8192 pitch (or_parts (ltb pitch width) (ltb 8192 pitch) e).1;
 }
-
--- all lines but the last, with their filler
-pub few_bytes : {width height pitch : ℕ} → Sides width height → Pitched width pitch → pitch * (height - 1) ≤ 33546240
-few_bytes {width} {height} s p = let h : height - 1 ≤ 4095 = omega (arith, s.height_le) in mul-le-mul p.at_most h
 
 -- a plane of len bytes
 pub record Framed (len : ℕ) (frame : Frame) : Type 0 where
@@ -75,9 +72,9 @@ good_frame {len} {frame} e =
     let sides = bad_sides frame.width frame.height in
     let pitch = bad_pitch frame.width frame.pitch in
     let whole = eqb len (bytes_of frame) in
-    let r = or_right sides (pitch || not whole) e in
-    framed (good_sides (or_left sides (pitch || not whole) e)) (good_pitch frame.width frame.pitch (or_left pitch (not whole) r))
-    (eqb-true len (bytes_of frame) (not-false whole (or_right pitch (not whole) r)))
+    let r = (or_parts sides (pitch || not whole) e).1 in
+    framed (good_sides (or_parts sides (pitch || not whole) e).0) (good_pitch frame.width frame.pitch (or_parts pitch (not whole) r).0)
+    (eqb-true len (bytes_of frame) (not-false whole (or_parts pitch (not whole) r).1))
 
 -- a pixel of the picture is a byte of the plane
 pub pixel_inside : {len : ℕ} {frame : Frame} → Framed len frame → (x y : ℕ) → x < frame.width → y < frame.height → place_of frame x y < len

@@ -2,7 +2,7 @@
 use Rattle.std.specs.Prelude.{ℕ, Result, Ok, Err}
 use Rattle.refusals.specs.declared.refusal.Refusal.{Refusal}
 use Rattle.refusals.specs.declared.refusal.Refusal.TheVariants.{Plane, Weights, Sample, Threshold, Worklist, Table, Alike, Corner, CornerOutside, SampleOutside, Flat, Unsure, Unread, Print, Count, Room, Grid, Repeated, Long, NoReading}
-use Rattle.refusals.specs.Outcome.{Outcome, accepted, refused}
+use Rattle.refusals.specs.Outcome.{Outcome, accepted, refused, Done}
 
 abbrev pub number_of : Refusal → ℕ
 number_of Plane = 1
@@ -26,7 +26,15 @@ number_of Repeated = 18
 number_of Long = 19
 number_of NoReading = 20
 
--- "a result or a refusal": the value of an answer, or the number of its refusal
+-- "a result or a refusal": what an accepted answer says, or the number of its refusal
+abbrev pub outcome_by : {A B : Type 0} → (A → Outcome B) → Result A Refusal → Outcome B
+outcome_by says (Ok value) = says value
+outcome_by says (Err refusal) = refused (number_of refusal)
+
+-- where it says its value
 abbrev pub outcome : {A : Type 0} → Result A Refusal → Outcome A
-outcome (Ok value) = accepted value
-outcome (Err refusal) = refused (number_of refusal)
+outcome answer = outcome_by accepted answer
+
+-- where it says no more than that the call is done
+abbrev pub done : {A : Type 0} → Result A Refusal → Outcome Done
+done answer = outcome_by (λ value. accepted (record {})) answer

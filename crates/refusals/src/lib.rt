@@ -1,5 +1,5 @@
-// What several public entries share: why a call is refused, the structs that describe a plane, and planes that refusal 1 lets
-// through.
+//! What several public entries share: why a call is refused, the structs that describe a plane, the tests of refusal 1, planes
+//! that have passed them, and the byte that a pixel stands in.
 #![tactic(auto, using(std::proofs::lemmas::Bool::Decides::nat_tests), unfolding(crate::specs::Plane::bad_sides, crate::specs::Plane::bad_plane, crate::specs::Pixels::bad_pitch, crate::specs::Pixels::bad_frame))]
 
 mod picture;
@@ -12,15 +12,15 @@ ghost use Rattle.refusals.specs.Pixels.{packed_frame, bad_pitch, bad_frame, plac
 pub use picture::Picture;
 pub use refusal::Refusal;
 
-// The sides of a plane of floats.
+/// The sides of a plane of floats.
 #[derive(Clone, Copy, Debug, PartialEq, Eq)]
 pub struct Shape {
     pub width: usize,
     pub height: usize,
 }
 
-// The sides of an 8-bit plane, and its pitch: the bytes from the start of a line to the start of the next. The pitch - width
-// bytes behind each line but the last are filler, which is never read and never written.
+/// The sides of an 8-bit plane, and its pitch: the bytes from the start of a line to the start of the next. The pitch - width
+/// bytes behind each line but the last are filler, which is never read and never written.
 #[derive(Clone, Copy, Debug, PartialEq, Eq)]
 pub struct Frame {
     pub width: usize,
@@ -31,29 +31,17 @@ pub struct Frame {
 fn bad_sides(width: usize, height: usize) -> bool
     ensures { result ≡ bad_sides width height }
 {
-    if width == 0 {
-        return true;
-    }
-    if 4096 < width {
-        return true;
-    }
-    if height == 0 {
-        return true;
-    }
-    4096 < height
+    width == 0 || 4096 < width || height == 0 || 4096 < height
 }
 
-// Refusal 1 for a plane of `len` floats.
+/// Refusal 1 for a plane of `len` floats.
 pub fn bad_plane(len: usize, width: usize, height: usize) -> bool
     ensures { result ≡ bad_plane len width height }
 {
-    if bad_sides(width, height) {
-        return true;
-    }
-    len != width * height
+    bad_sides(width, height) || len != width * height
 }
 
-// An 8-bit plane without filler.
+/// An 8-bit plane without filler.
 pub fn packed_frame(width: usize, height: usize) -> Frame
     ensures { result ≡ packed_frame width height }
 {
@@ -67,29 +55,22 @@ pub fn packed_frame(width: usize, height: usize) -> Frame
 fn bad_pitch(width: usize, pitch: usize) -> bool
     ensures { result ≡ bad_pitch width pitch }
 {
-    if pitch < width {
-        return true;
-    }
-    8192 < pitch
+    pitch < width || 8192 < pitch
 }
 
-// Refusal 1 for an 8-bit plane of `len` bytes.
+/// Refusal 1 for an 8-bit plane of `len` bytes.
 pub fn bad_frame(len: usize, frame: Frame) -> bool
     ensures { result ≡ bad_frame len frame }
 {
-    let width = frame.width;
-    let height = frame.height;
-    let pitch = frame.pitch;
-    if bad_sides(width, height) {
-        return true;
-    }
-    if bad_pitch(width, pitch) {
-        return true;
-    }
-    len != pitch * (height - 1) + width
+    let Frame {
+        width,
+        height,
+        pitch,
+    } = frame;
+    bad_sides(width, height) || bad_pitch(width, pitch) || len != pitch * (height - 1) + width
 }
 
-// The byte of an 8-bit plane that is pixel (x, y).
+/// The byte of an 8-bit plane that is pixel (x, y).
 pub fn place_of(frame: Frame, x: usize, y: usize) -> usize
     requires { SmallFrame frame × (x ≤ 4096) × (y ≤ 4096) }
     ensures { result ≡ place_of frame x y }

@@ -1,12 +1,12 @@
-// 8-bit planes that refusal 1 lets through.
+//! 8-bit planes that refusal 1 lets through.
 ghost use Rattle.std.specs.Prelude.{◌≡◌, ◌<◌, true, false, length, IfOk, IfErr};
 ghost use Rattle.refusals.specs.Pixels.{bad_frame, level_at};
 
 use crate::refusal::Refusal;
-use crate::{Frame, bad_frame};
+use crate::{Frame, bad_frame, place_of};
 
 /// A lent 8-bit plane that has been checked.
-#[derive(Clone, Copy)]
+#[derive(Clone, Copy, Debug, PartialEq, Eq)]
 pub struct Picture<'a> {
     pub bytes: &'a [u8],
     pub frame: Frame,
@@ -31,6 +31,6 @@ impl<'a> Picture<'a> {
         requires down { y < self.now.frame.height }
         ensures { result ≡ level_at self.now.bytes.now self.now.frame x y }
     {
-        self.bytes[y * self.frame.pitch + x]
+        self.bytes[place_of(self.frame, x, y)]
     }
 }

@@ -1,4 +1,4 @@
-// Why a call is refused.
+//! Why a call is refused.
 ghost use Rattle.std.specs.Prelude.{◌≡◌};
 ghost use Rattle.refusals.specs.Numbers.{number_of};
 

@@ -7,9 +7,9 @@ use Prim.Native.Nat.{ℕ, zero, suc, ◌+◌, ◌≤◌, ◌<◌}
 use native.Mathlib.Omega.{arith}
 use borrow.Author.Tests.{ltb-true, leb-true, eqb-true, not-true, lt-ltb, le-leb}
 use lib.Dec.{leb, ltb, eqb}
-use lib.Ieee.{Float}
 use lib.ListN.{length}
-use Rattle.lists.proofs.Bools.{and_left, and_right, or_cases}
+use Rattle.std.proofs.lemmas.Bool.{or_cases}
+use Rattle.std.specs.Cmp.{first_so, second_so}
 use Rattle.refusals.specs.Outcome.{Outcome, accepted, refused}
 use Rattle.places.specs.Corners.{bad_corners}
 use Rattle.points.specs.Numbers.{numbers_of}
@@ -30,13 +30,13 @@ module _ (tag : Tag) where
       let turn = leb tag.turn 3 in
       let differing = leb tag.differing 63 in
       let corners = not (bad_corners tag.corners) in
-      let behind = and_right id (turn && (differing && corners)) h in
-      let last = and_right turn (differing && corners) behind in
+      let behind = second_so id (turn && (differing && corners)) h in
+      let last = second_so turn (differing && corners) behind in
       record {
-        id_lt = ltb-true tag.id 1024 (and_left id (turn && (differing && corners)) h);
-        turned = leb-true tag.turn 3 (and_left turn (differing && corners) behind);
-        most = leb-true tag.differing 63 (and_left differing corners last);
-        corners_pass = not-true (bad_corners tag.corners) (and_right differing corners last);
+        id_lt = ltb-true tag.id 1024 (first_so id (turn && (differing && corners)) h);
+        turned = leb-true tag.turn 3 (first_so turn (differing && corners) behind);
+        most = leb-true tag.differing 63 (first_so differing corners last);
+        corners_pass = not-true (bad_corners tag.corners) (second_so differing corners last);
       }
 
   pub tag_good : GoodTag tag → good_row (accepted tag) ≡ true
@@ -47,7 +47,7 @@ pub refusal_range : (n : ℕ) → row_refusal n ≡ true → (8 ≤ n) × (n ≤
 refusal_range n h = go (or_cases (leb 8 n && leb n 13) (eqb n 18) h)
   where
     go : (leb 8 n && leb n 13 ≡ true) ⊎ (eqb n 18 ≡ true) → (8 ≤ n) × (n ≤ 18)
-    go (inl b) = (leb-true 8 n (and_left (leb 8 n) (leb n 13) b), omega (arith, leb-true n 13 (and_right (leb 8 n) (leb n 13) b)))
+    go (inl b) = (leb-true 8 n (first_so (leb 8 n) (leb n 13) b), omega (arith, leb-true n 13 (second_so (leb 8 n) (leb n 13) b)))
     go (inr e) = (omega (arith, eqb-true n 18 e), omega (arith, eqb-true n 18 e))
 
 -- a good row, case by case
@@ -61,10 +61,6 @@ good_row_lem (refused n) h = refusal_range n h
 
 -- ---- sizes
 
-pub one_unless_zero_at : (n : ℕ) → (n ≡ 0 → ⊥) → one_unless_zero n ≡ 1
-one_unless_zero_at zero h = absurd (h refl)
-one_unless_zero_at (suc n) h = refl
-
 pub length-unless_zero : (n : ℕ) → length (unless_zero n) ≡ one_unless_zero n
 length-unless_zero zero = refl
 length-unless_zero (suc n) = refl
@@ -72,10 +68,6 @@ length-unless_zero (suc n) = refl
 pub one_at_most : (n : ℕ) → one_unless_zero n ≤ 1
 one_at_most zero = omega arith
 one_at_most (suc n) = omega arith
-
-length_four : (x : Float) → length (float_bytes x) ≡ 4
-unfolding low_first
-length_four x = refl
 
 pub length_tag : (tag : Tag) → length (row_bytes (accepted tag)) ≡ 35 + one_unless_zero tag.turn + one_unless_zero tag.differing
 unfolding low_first flat_map

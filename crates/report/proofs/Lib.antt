@@ -4,3 +4,4 @@ pub mod Placed
 pub mod LowFirst
 pub mod Report
 pub mod Rows
+pub mod Options

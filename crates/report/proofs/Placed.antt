@@ -12,7 +12,7 @@ use lib.Dec.{eqb}
 use lib.ListN.{length, get_or, set, replicate, length-append, length-set, length-replicate}
 use lib.Seq.{get_or-set_same, get_or-set_other}
 use Rattle.lists.specs.Tab.{all}
-use Rattle.lists.proofs.Bools.{same?, and_not_right}
+use Rattle.std.proofs.lemmas.Bool.{cases_eq, and_right}
 use Rattle.refusals.specs.Outcome.{Outcome, accepted, refused}
 use Rattle.reader.specs.Reading.{Tag}
 use Rattle.report.specs.Reading.{good_row, id_of, holds, distinct}
@@ -61,7 +61,7 @@ regroup false n h = refl
 met_more : (met : List Bool) (ids : List ℕ) (id : ℕ) → id < length met → none_met (set met id true) ids ≡ none_met met ids && not (holds id ids)
 unfolding all holds
 met_more met [] id h = refl
-met_more met (k ∷ ids) id h = go (met_more met ids id h) (same? k id)
+met_more met (k ∷ ids) id h = go (met_more met ids id h) (cases_eq k id)
   where
     go : none_met (set met id true) ids ≡ none_met met ids && not (holds id ids) → (k ≡ id) ⊎ (k ≡ id → ⊥)
         → not_met (set met id true) k && none_met (set met id true) ids ≡ (not_met met k && none_met met ids) && not (eqb k id || holds id ids)
@@ -161,4 +161,4 @@ module _ (met : List Bool) (c : Candidate) (l : List Candidate) (at : ℕ) where
   placed-not s = step ∙ simp s
 
   pub placed_met : is_met met c.row ≡ true → placed met (c ∷ l) at ≡ refused 20
-  placed_met m = step ∙ ap (λ (b : Bool). cond b placed_on (refused 20)) (and_not_right c.stands (not (is_met met c.row)) (ap not m))
+  placed_met m = step ∙ ap (λ (b : Bool). cond b placed_on (refused 20)) (and_right c.stands (not (is_met met c.row)) (ap not m))

@@ -1,17 +1,18 @@
 -- The bytes of a row are read as the row, the report of a reading as the reading, and a report is that of what it says. Assumes nothing.
-use mathlib.Core.Path.{◌≡◌, refl, sym, ap, ap₂, ◌∙◌, subst}
-use mathlib.Core.Bool.{Bool, true, false, ◌&&◌, cond, and-true}
+use mathlib.Core.Path.{◌≡◌, refl, sym, ap, ap₂, ◌∙◌}
+use mathlib.Core.Bool.{Bool, true, ◌&&◌, and-true}
 use mathlib.Core.List.{List, [], ◌∷◌, ◌++◌, flat_map, append-nil, append_assoc}
 use Prim.Native.Nat.{ℕ, zero, suc, ◌^◌, ◌≤◌, ◌<◌}
 use native.Mathlib.Omega.{arith}
-use lib.Dec.{T, eqb}
 use lib.Ieee.{Float, nan, binary32, fits, to_bits, of_bits}
 use lib.Ieee.Bits.{is_true, of_bits-to_bits, to_bits-lt, of_bits-fits}
 use lib.ListN.{length, get_or, drop}
 use lib.Seq.{drop-append_seam}
 use Rattle.lists.specs.Tab.{all}
 use Rattle.lists.proofs.All.{all_at}
-use Rattle.lists.proofs.Bools.{and_parts, and_left, and_right}
+use Rattle.std.proofs.lemmas.Float.{T_from_true}
+use Rattle.std.proofs.lemmas.Bool.{and_parts}
+use Rattle.std.specs.Cmp.{first_so, second_so}
 use Rattle.refusals.specs.Outcome.{Outcome, accepted, refused}
 use Rattle.points.specs.declared.Point.{Point}
 use Rattle.points.specs.declared.Quad.{Quad}
@@ -21,7 +22,7 @@ use Rattle.listing.specs.Listing.{corners_of}
 use Rattle.report.specs.Reading.{good_row, is_reading}
 use Rattle.report.specs.Bytes.{low_first, float_bytes, row_bytes, report_of}
 use Rattle.report.specs.Rows.{same}
-use Rattle.report.specs.Report.{number_of, tag_in, has_turn, has_differing, row_in, rows_in, count_in, report_says, is_report}
+use Rattle.report.specs.Report.{number_of, row_in, rows_in, count_in, report_says, is_report}
 use Rattle.report.specs.Steps.{begins_with, bytes_stand}
 use Rattle.report.proofs.Same.{same_refl, same-eq, begins_with_lem}
 use Rattle.report.proofs.Good.{good_tag}
@@ -34,9 +35,6 @@ fit_row row = all (fits binary32) (corners_of row)
 abbrev pub FitRow : Outcome Tag → Type 0
 FitRow row = fit_row row ≡ true
 
-pub held : (x : Float) → fits binary32 x ≡ true → T (fits binary32 x)
-held x e = subst T (sym e) tt
-
 -- a corner number, a corner and a quad as they are read from their own bytes
 abbrev reread : Float → Float
 reread x = of_bits binary32 (number_of (float_bytes x))
@@ -48,7 +46,7 @@ abbrev reread_quad : Quad → Quad
 reread_quad q = record { q0 = reread_point q.q0; q1 = reread_point q.q1; q2 = reread_point q.q2; q3 = reread_point q.q3 }
 
 reread-same : (x : Float) → fits binary32 x ≡ true → reread x ≡ x
-reread-same x e = ap (of_bits binary32) (number_back 4 (to_bits binary32 x) (to_bits-lt binary32 x (held x e))) ∙ of_bits-to_bits binary32 x (held x e)
+reread-same x e = ap (of_bits binary32) (number_back 4 (to_bits binary32 x) (to_bits-lt binary32 x (T_from_true _ e))) ∙ of_bits-to_bits binary32 x (T_from_true _ e)
 
 abbrev tagged : ℕ → ℕ → ℕ → Quad → Outcome Tag
 tagged id turn differing corners = accepted (record { id = id; turn = turn; differing = differing; corners = corners })
@@ -104,11 +102,11 @@ unfolding all flat_map rows_in
 rows_in_back [] rest good fit = refl
 rows_in_back (row ∷ said) rest good fit =
     let more = flat_map row_bytes said ++ rest in
-    let is = row_back row more (and_left (good_row row) (all good_row said) good) (and_left (fit_row row) (all fit_row said) fit) in
+    let is = row_back row more (first_so (good_row row) (all good_row said) good) (first_so (fit_row row) (all fit_row said) fit) in
     ap (rows_in (suc (length said))) (append_assoc (row_bytes row) (flat_map row_bytes said) rest)
     ∙ ap (λ (r : Outcome Tag). r ∷ rows_in (length said) (drop (length (row_bytes r)) (row_bytes row ++ more))) is
     ∙ ap (λ (bytes : List ℕ). row ∷ rows_in (length said) bytes) (drop-append_seam (row_bytes row) more)
-    ∙ ap (λ (l : List (Outcome Tag)). row ∷ l) (rows_in_back said rest (and_right (good_row row) (all good_row said) good) (and_right (fit_row row) (all fit_row said) fit))
+    ∙ ap (λ (l : List (Outcome Tag)). row ∷ l) (rows_in_back said rest (second_so (good_row row) (all good_row said) good) (second_so (fit_row row) (all fit_row said) fit))
 
 -- the report of a reading has the reading's number of rows and two bytes at least; it says the reading, so that it is a report
 pub count_back : (said : List (Outcome Tag)) → length said < 65536 → count_in (report_of said) ≡ length said
@@ -158,20 +156,3 @@ bits_fit n = is_true (fits binary32 (of_bits binary32 n)) (of_bits-fits binary32
 pub refused_fits : (n : ℕ) → FitRow (refused n)
 unfolding all
 refused_fits n = simp bits_fit
-
-row_in-fits : (bytes : List ℕ) → FitRow (row_in bytes)
-unfolding row_in all
-row_in-fits bytes = go (eqb (get_or bytes 0 0) 16)
-  where
-    go : (b : Bool) → FitRow (cond b (refused (get_or bytes 1 0)) (accepted (tag_in (has_turn (get_or bytes 0 0)) (has_differing (get_or bytes 0 0)) bytes)))
-    go true = refused_fits (get_or bytes 1 0)
-    go false = simp bits_fit
-
-rows_in_fit : (n : ℕ) (bytes : List ℕ) → all fit_row (rows_in n bytes) ≡ true
-unfolding all rows_in
-rows_in_fit zero bytes = refl
-rows_in_fit (suc n) bytes = ap₂ ◌&&◌ (row_in-fits bytes) (rows_in_fit n (drop (length (row_bytes (row_in bytes))) bytes))
-
-pub report_fits : (report : List ℕ) → all fit_row (report_says report) ≡ true
-unfolding report_says
-report_fits report = rows_in_fit (count_in report) (drop 2 report)

@@ -10,8 +10,10 @@ use lib.Ieee.{Float, nan, binary32, fits, of_bits}
 use lib.Ieee.Bits.{of_bits-to_bits}
 use lib.ListN.{length, get_or, drop}
 use lib.Seq.{drop_at}
+use Rattle.std.proofs.lemmas.Float.{T_from_true}
 use Rattle.lists.specs.Tab.{all}
-use Rattle.lists.proofs.Bools.{and_parts, and_left, and_right}
+use Rattle.std.proofs.lemmas.Bool.{and_parts}
+use Rattle.std.specs.Cmp.{first_so, second_so}
 use Rattle.lists.proofs.Flat.{length_flat}
 use Rattle.refusals.specs.Outcome.{Outcome, accepted, refused}
 use Rattle.points.specs.Numbers.{quad_size, quad_at}
@@ -22,7 +24,7 @@ use Rattle.report.specs.Reading.{good_row, id_of, distinct, is_reading}
 use Rattle.report.specs.Rows.{same, bits_of, same_bits, front_row, front_rows, row_count, rows_say, is_rows}
 use Rattle.report.proofs.Same.{same_refl, same-eq}
 use Rattle.report.proofs.Good.{refusal_range}
-use Rattle.report.proofs.Report.{fit_row, FitRow, held, refused_fits}
+use Rattle.report.proofs.Report.{fit_row, FitRow, refused_fits}
 
 pub length-front_rows : (n : ℕ) (rows : List ℕ) (corners : List Float) → length (front_rows n rows corners) ≡ n
 unfolding front_rows
@@ -44,10 +46,10 @@ front_rows_back (row ∷ said) good =
     let rest = flat_map row_of said in
     let more = flat_map corners_of said in
     ap (λ (r : Outcome Tag). r ∷ front_rows (length said) (drop row_size (row_of row ++ rest)) (drop quad_size (corners_of row ++ more)))
-    (front_back row rest more (and_left (good_row row) (all good_row said) good))
+    (front_back row rest more (first_so (good_row row) (all good_row said) good))
     ∙ ap (λ (l : List ℕ). row ∷ front_rows (length said) l (drop quad_size (corners_of row ++ more))) (drop_at (row_of row) rest row_size (row_size_lem row))
     ∙ ap (λ (l : List Float). row ∷ front_rows (length said) rest l) (drop_at (corners_of row) more quad_size (corners_size row))
-    ∙ ap (λ (l : List (Outcome Tag)). row ∷ l) (front_rows_back said (and_right (good_row row) (all good_row said) good))
+    ∙ ap (λ (l : List (Outcome Tag)). row ∷ l) (front_rows_back said (second_so (good_row row) (all good_row said) good))
 
 -- a row for each
 pub row_count_lem : (said : List (Outcome Tag)) → row_count (length (flat_map row_of said)) ≡ length said
@@ -59,7 +61,7 @@ rows_back said good = ap (λ (n : ℕ). front_rows n (flat_map row_of said) (fla
 -- every row of a reading is good
 pub good_rows : (said : List (Outcome Tag)) → is_reading said ≡ true → all good_row said ≡ true
 unfolding is_reading
-good_rows said reading = and_left (all good_row said) (distinct (flat_map id_of said)) reading
+good_rows said reading = first_so (all good_row said) (distinct (flat_map id_of said)) reading
 
 pub rows_are : (said : List (Outcome Tag)) → is_reading said ≡ true → is_rows (flat_map row_of said) (flat_map corners_of said) ≡ true
 unfolding is_rows
@@ -78,8 +80,8 @@ nan-fits = refl
 fit_at : (corners : List Float) (k : ℕ) → all (fits binary32) corners ≡ true → fits binary32 (get_or corners k nan) ≡ true
 unfolding all
 fit_at [] k fit = nan-fits
-fit_at (x ∷ corners) zero fit = and_left (fits binary32 x) (all (fits binary32) corners) fit
-fit_at (x ∷ corners) (suc k) fit = fit_at corners k (and_right (fits binary32 x) (all (fits binary32) corners) fit)
+fit_at (x ∷ corners) zero fit = first_so (fits binary32 x) (all (fits binary32) corners) fit
+fit_at (x ∷ corners) (suc k) fit = fit_at corners k (second_so (fits binary32 x) (all (fits binary32) corners) fit)
 
 front_fits : (rows : List ℕ) (corners : List Float) → all (fits binary32) corners ≡ true → FitRow (front_row rows corners)
 unfolding all
@@ -99,7 +101,7 @@ all-drop : (n : ℕ) (corners : List Float) → all (fits binary32) corners ≡ 
 unfolding all
 all-drop zero corners fit = fit
 all-drop (suc n) [] fit = fit
-all-drop (suc n) (x ∷ corners) fit = all-drop n corners (and_right (fits binary32 x) (all (fits binary32) corners) fit)
+all-drop (suc n) (x ∷ corners) fit = all-drop n corners (second_so (fits binary32 x) (all (fits binary32) corners) fit)
 
 front_rows_fit : (n : ℕ) (rows : List ℕ) (corners : List Float) → all (fits binary32) corners ≡ true → all fit_row (front_rows n rows corners) ≡ true
 unfolding all front_rows
@@ -118,7 +120,7 @@ unfolding all flat_map
 corners_fit [] fit = refl
 corners_fit (row ∷ said) fit =
     all-append (corners_of row) (flat_map corners_of said)
-    ∙ ap₂ ◌&&◌ (and_left (fit_row row) (all fit_row said) fit) (corners_fit said (and_right (fit_row row) (all fit_row said) fit))
+    ∙ ap₂ ◌&&◌ (first_so (fit_row row) (all fit_row said) fit) (corners_fit said (second_so (fit_row row) (all fit_row said) fit))
 
 -- they are the same where their bits are
 bits_back : (l : List Float) → all (fits binary32) l ≡ true → map (of_bits binary32) (bits_of l) ≡ l
@@ -126,7 +128,7 @@ unfolding all
 bits_back [] fit = refl
 bits_back (x ∷ l) fit =
     let p = and_parts (fits binary32 x) (all (fits binary32) l) fit in
-    ap₂ (λ (a : Float) (m : List Float). a ∷ m) (of_bits-to_bits binary32 x (held x p.0)) (bits_back l p.1)
+    ap₂ (λ (a : Float) (m : List Float). a ∷ m) (of_bits-to_bits binary32 x (T_from_true _ p.0)) (bits_back l p.1)
 
 same_bits-eq : (l m : List Float) → all (fits binary32) l ≡ true → all (fits binary32) m ≡ true → same_bits l m ≡ true → l ≡ m
 same_bits-eq l m fit fit₂ e =

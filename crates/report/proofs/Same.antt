@@ -1,6 +1,6 @@
 -- Lists that are the same, lists that begin with another, and the part of a slice from a place on. Assumes nothing.
 use mathlib.Core.Path.{◌≡◌, refl, sym, ap, ap₂, ◌∙◌}
-use mathlib.Core.Bool.{Bool, true, false, ◌&&◌}
+use mathlib.Core.Bool.{Bool, true, ◌&&◌, and_assoc}
 use mathlib.Core.List.{List, [], ◌∷◌, ◌++◌}
 use Prim.Native.Nat.{ℕ, ◌-◌}
 use native.Mathlib.Omega.{arith}
@@ -8,7 +8,7 @@ use borrow.Author.Tests.{eqb-true, eq-eqb}
 use lib.Dec.{eqb}
 use lib.ListN.{length, take, drop, take-append-drop, length-drop}
 use lib.Seq.{take_at, take_all}
-use Rattle.lists.proofs.Bools.{and_left, and_right}
+use Rattle.std.specs.Cmp.{first_so, second_so}
 use Rattle.report.specs.Rows.{same}
 use Rattle.report.specs.Steps.{begins_with}
 
@@ -22,7 +22,7 @@ unfolding same
 same-eq [] [] h = refl
 same-eq [] (b ∷ m) h = let z : ◌≡◌ {A = ℕ} 0 1 = cc in absurd (omega arith)
 same-eq (a ∷ l) [] h = let z : ◌≡◌ {A = ℕ} 0 1 = cc in absurd (omega arith)
-same-eq (a ∷ l) (b ∷ m) h = ap₂ (λ (x : ℕ) (y : List ℕ). x ∷ y) (eqb-true a b (and_left (eqb a b) (same l m) h)) (same-eq l m (and_right (eqb a b) (same l m) h))
+same-eq (a ∷ l) (b ∷ m) h = ap₂ (λ (x : ℕ) (y : List ℕ). x ∷ y) (eqb-true a b (first_so (eqb a b) (same l m) h)) (same-eq l m (second_so (eqb a b) (same l m) h))
 
 -- a list that begins with x is x and the rest, and the other way round
 pub begins_means : (x l : List ℕ) → begins_with x l ≡ true → l ≡ x ++ drop (length x) l
@@ -31,10 +31,6 @@ begins_means x l h =
 
 pub begins_with_lem : (x y : List ℕ) → begins_with x (x ++ y) ≡ true
 begins_with_lem x y = ap (same x) (take_at x y (length x) refl) ∙ same_refl x
-
-and_assoc : (a b c : Bool) → (a && b) && c ≡ a && (b && c)
-and_assoc true b c = refl
-and_assoc false b c = refl
 
 -- two parts one after the other
 pub same-append : (x y l : List ℕ) → same (x ++ y) l ≡ begins_with x l && same y (drop (length x) l)

@@ -1,9 +1,9 @@
-// What the writer and the reader of reports share: the ids met so far, the map of a row, how many bytes it has, and which refusals stand in rows.
+//! What the writer and the reader of reports share: the ids met so far, the map of a row, how many bytes it has, and which refusals stand in rows.
 #![tactic(auto)]
 
-ghost use Rattle.std.specs.Prelude.{◌≡◌, true, false, length, replicate};
+ghost use Rattle.std.specs.Prelude.{◌≡◌, false, length, replicate};
 ghost use Rattle.reader.specs.Answer.{paper_reading};
-ghost use Rattle.report.specs.Reading.{row_refusal, good_row};
+ghost use Rattle.report.specs.Reading.{row_refusal};
 ghost use Rattle.report.specs.Bytes.{one_unless_zero, tag_map, row_bytes};
 ghost use Rattle.report.specs.Steps.{is_met, meet};
 
@@ -31,21 +31,21 @@ impl Met {
 
     /// Whether the id of a row was met before. A refused row has none.
     pub fn has(&self, row: Reading) -> bool
-        requires { good_row (paper_reading row) ≡ true }
         ensures { result ≡ is_met self.now.ids (paper_reading row) }
     {
         match row {
-            Reading::Tag { id, .. } => self.ids[id],
+            Reading::Tag { id, .. } => self.ids.get(id) == Some(&true),
             Reading::Refused(_) => false,
         }
     }
 
     /// Meets the id of a row.
     pub fn add(&mut self, row: Reading)
-        requires { good_row (paper_reading row) ≡ true }
         ensures { self.new.ids ≡ meet self.old.ids (paper_reading row) }
     {
-        if let Reading::Tag { id, .. } = row {
+        if let Reading::Tag { id, .. } = row
+            && id < MOST_IDS
+        {
             self.ids[id] = true;
         }
     }

@@ -1,24 +1,27 @@
 -- Which bytes begin with a row: by its map, its fields and its length. Assumes nothing.
 use mathlib.Core.Path.{◌≡◌, refl, sym, ap, ap₂, subst, ◌∙◌}
-use mathlib.Core.Bool.{Bool, true, false, ◌&&◌, cond, and-true}
+use mathlib.Core.Bool.{Bool, true, false, not, ◌&&◌, cond, and-true}
 use mathlib.Core.List.{List, [], ◌∷◌, ◌++◌, flat_map}
 use Prim.Native.Nat.{ℕ, zero, suc, ◌+◌, ◌*◌, ◌≤◌, ◌<◌}
 use native.Mathlib.Omega.{arith}
-use borrow.Author.Tests.{eq-eqb, ne_eqb, ltb-true, leb-true, lt-ltb, le-leb}
-use lib.Dec.{ltb, leb}
+use borrow.Author.Tests.{eq-eqb, ne_eqb, eqb-true, not-true, ltb-true, leb-true, lt-ltb, le-leb}
+use lib.Dec.{ltb, leb, eqb}
 use lib.ListN.{length, get_or, take, drop, length-append}
-use Rattle.lists.proofs.Bools.{and_left, and_right}
+use Rattle.std.proofs.lemmas.Bool.{and_parts}
+use Rattle.std.specs.Cmp.{first_so, second_so, both_ways}
+use Rattle.places.specs.Corners.{bad_corners}
 use Rattle.refusals.specs.Outcome.{Outcome, accepted, refused}
 use Rattle.points.specs.Numbers.{numbers_of}
 use Rattle.reader.specs.Reading.{Tag}
 use Rattle.report.specs.Reading.{row_refusal, good_row}
-use Rattle.report.specs.Bytes.{low_first, unless_zero, one_unless_zero, float_bytes, row_bytes}
+use Rattle.report.specs.Bytes.{low_first, unless_zero, one_unless_zero, tag_map, float_bytes, row_bytes}
 use Rattle.report.specs.Rows.{same}
-use Rattle.report.specs.Report.{tag_in, has_turn, has_differing, row_in}
+use Rattle.report.specs.Report.{tag_in, quad_in, has_turn, has_differing, row_in}
 use Rattle.report.specs.Steps.{begins_with, bytes_stand}
 use Rattle.report.proofs.Same.{same_refl, begins_means}
 use Rattle.report.proofs.Good.{GoodTag, good_tag, tag_good, length-unless_zero, length_tag, one_at_most, row_some}
-use Rattle.report_reader.specs.Steps.{tag_stands}
+use Rattle.report_reader.specs.declared.Head.{Head}
+use Rattle.report_reader.specs.Steps.{head_of, tag_stands}
 use Rattle.report_reader.proofs.Pieces.{Stood, Stood-more, Stood-byte, Stood-number, Stood-field, Stood-quad}
 
 -- the bits of a tag's map
@@ -62,8 +65,8 @@ module _ (bytes : List ℕ) where
   pub tag_means : tag_stands bytes ≡ true → TagStands
   unfolding tag_stands
   tag_means h =
-      let good = and_left (good_row (accepted tag)) (begins_with (row_bytes (accepted tag)) bytes) h in
-      let is = begins_means (row_bytes (accepted tag)) bytes (and_right (good_row (accepted tag)) (begins_with (row_bytes (accepted tag)) bytes) h) in
+      let good = first_so (good_row (accepted tag)) (begins_with (row_bytes (accepted tag)) bytes) h in
+      let is = begins_means (row_bytes (accepted tag)) bytes (second_so (good_row (accepted tag)) (begins_with (row_bytes (accepted tag)) bytes) h) in
       let first : m ≡ map_bits (one_unless_zero tag.turn) (one_unless_zero tag.differing) = ap (λ (l : List ℕ). get_or l 0 0) is in
       record {
         long = omega (arith, ap length is ∙ length-append (row_bytes (accepted tag)) (drop (length (row_bytes (accepted tag))) bytes), length_tag tag, turned first, differs first);
@@ -133,13 +136,13 @@ module _ (bytes : List ℕ) where
   -- a row that stands is good, and all of it is there
   pub stands_good : bytes_stand bytes ≡ true → good_row (row_in bytes) ≡ true
   unfolding bytes_stand
-  stands_good h = and_left (good_row (row_in bytes)) (begins_with (row_bytes (row_in bytes)) bytes) h
+  stands_good h = first_so (good_row (row_in bytes)) (begins_with (row_bytes (row_in bytes)) bytes) h
 
   pub stands_long : bytes_stand bytes ≡ true → length (row_bytes (row_in bytes)) ≤ length bytes
   unfolding bytes_stand
   stands_long h =
       let row = row_in bytes in
-      let is = begins_means (row_bytes row) bytes (and_right (good_row row) (begins_with (row_bytes row) bytes) h) in
+      let is = begins_means (row_bytes row) bytes (second_so (good_row row) (begins_with (row_bytes row) bytes) h) in
       omega (arith, ap length is ∙ length-append (row_bytes row) (drop (length (row_bytes row)) bytes))
 
   -- no row has fewer than two bytes
@@ -157,12 +160,48 @@ numbers_pass id turn differing = ltb id 1024 && (leb turn 3 && leb differing 63)
 
 pub numbers_mean : (id turn differing : ℕ) → numbers_pass id turn differing ≡ true → (id < 1024) × (turn ≤ 3) × (differing ≤ 63)
 numbers_mean id turn differing h =
-    let behind = and_right (ltb id 1024) (leb turn 3 && leb differing 63) h in (
-      ltb-true id 1024 (and_left (ltb id 1024) (leb turn 3 && leb differing 63) h),
-      leb-true turn 3 (and_left (leb turn 3) (leb differing 63) behind),
-      leb-true differing 63 (and_right (leb turn 3) (leb differing 63) behind),
+    let behind = second_so (ltb id 1024) (leb turn 3 && leb differing 63) h in (
+      ltb-true id 1024 (first_so (ltb id 1024) (leb turn 3 && leb differing 63) h),
+      leb-true turn 3 (first_so (leb turn 3) (leb differing 63) behind),
+      leb-true differing 63 (second_so (leb turn 3) (leb differing 63) behind),
     )
 
 pub numbers_pass_lem : (bytes : List ℕ) (s : TagStands bytes) → let tag = tag_in (has_turn (get_or bytes 0 0)) (has_differing (get_or bytes 0 0)) bytes in
     numbers_pass tag.id tag.turn tag.differing ≡ true
 numbers_pass_lem bytes s = simp (lt-ltb _ 1024 s.good.id_lt, le-leb _ 3 s.good.turned, le-leb _ 63 s.good.most)
+
+-- ---- the tests of a tag's row
+
+pub tag_short : (bytes : List ℕ) → length bytes < 35 → tag_stands bytes ≡ false
+tag_short bytes h = sym (tag_not bytes (λ s. omega (arith, s.long)))
+
+-- all of them, for bytes that have a head
+abbrev pub tests : List ℕ → Head → Bool
+tests bytes head =
+    leb (head.corners + 32) (length bytes) && (eqb (get_or bytes 0 0) (tag_map head.turn head.differing) && (numbers_pass head.id head.turn head.differing && not (bad_corners (quad_in head.corners bytes))))
+
+pub tests_say : (bytes : List ℕ) → ((k : ℕ) → get_or bytes k 0 < 256) → tests bytes (head_of bytes) ≡ tag_stands bytes
+tests_say bytes byte = both_ways (tests bytes head) (tag_stands bytes) passed met
+  where
+    head : Head
+    head = head_of bytes
+
+    passed : tests bytes head ≡ true → tag_stands bytes ≡ true
+    passed h =
+        let long = and_parts (leb (head.corners + 32) (length bytes)) (eqb (get_or bytes 0 0) (tag_map head.turn head.differing) && (numbers_pass head.id head.turn head.differing && not (bad_corners (quad_in head.corners bytes)))) h in
+        let mapped = and_parts (eqb (get_or bytes 0 0) (tag_map head.turn head.differing)) (numbers_pass head.id head.turn head.differing && not (bad_corners (quad_in head.corners bytes))) long.1 in
+        let rest = and_parts (numbers_pass head.id head.turn head.differing) (not (bad_corners (quad_in head.corners bytes))) mapped.1 in
+        let n = numbers_mean head.id head.turn head.differing rest.0 in
+        tag_if bytes byte (record {
+          long = omega (arith, leb-true (head.corners + 32) (length bytes) long.0);
+          mapped = eqb-true (get_or bytes 0 0) (tag_map head.turn head.differing) mapped.0;
+          good = record { id_lt = n.0; turned = n.1; most = n.2; corners_pass = not-true (bad_corners (quad_in head.corners bytes)) rest.1 };
+        })
+
+    met : tag_stands bytes ≡ true → tests bytes head ≡ true
+    met h =
+        let s = tag_means bytes h in
+        simp (le-leb (head.corners + 32) (length bytes) (omega (arith, s.long)), eq-eqb (get_or bytes 0 0) (tag_map head.turn head.differing) s.mapped, numbers_pass_lem bytes s, s.good.corners_pass)
+
+-- what the bytes say of the row in front
+pub ruleset front_rows = (stands_short, stands_refusal, stands_tag, row_of_tag, row_of_refusal)

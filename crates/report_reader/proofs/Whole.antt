@@ -9,7 +9,8 @@ use lib.Dec.{eqb}
 use lib.ListN.{length, get_or, drop, replicate, length-append, length-drop}
 use lib.Seq.{drop-drop}
 use Rattle.lists.specs.Tab.{all}
-use Rattle.lists.proofs.Bools.{same_test, and_parts, and_left}
+use Rattle.std.proofs.lemmas.Bool.{and_parts}
+use Rattle.std.specs.Cmp.{both_ways, first_so}
 use Rattle.refusals.specs.Outcome.{Outcome, accepted, refused}
 use Rattle.reader.specs.Reading.{Tag}
 use Rattle.report.specs.Reading.{good_row, id_of, distinct, is_reading}
@@ -48,7 +49,7 @@ none_left (b ∷ l) = sym (ne_eqb 0 (suc (length l)) (λ e. omega arith))
 
 eqb_shift : (k a b n : ℕ) → n ≡ k + b → eqb (k + a) n ≡ eqb a b
 eqb_shift k a b n e =
-    same_test (eqb (k + a) n) (eqb a b) (λ h. eq-eqb a b (omega (arith, eqb-true (k + a) n h))) (λ h. eq-eqb (k + a) n (omega (arith, eqb-true a b h)))
+    both_ways (eqb (k + a) n) (eqb a b) (λ h. eq-eqb a b (omega (arith, eqb-true (k + a) n h))) (λ h. eq-eqb (k + a) n (omega (arith, eqb-true a b h)))
 
 -- one row more, x its bytes, g whether it is good; G and A say of the rows behind it what g and both tests say of it
 module _ (g G A : Bool) (x F bytes : List ℕ) where
@@ -136,11 +137,11 @@ report_stands report h =
     let bytes = drop 2 report in
     let said = rows_in n bytes in
     let m = report_means report h in
-    let good = and_left (all good_row said) (distinct (flat_map id_of said)) m.0 in
+    let good = first_so (all good_row said) (distinct (flat_map id_of said)) m.0 in
     let these : bytes_of n bytes ≡ bytes = ap (drop 2) m.1 in
     let both : all good_row said && same (bytes_of n bytes) bytes ≡ true =
     ap₂ (λ (a : Bool) (b : Bool). a && b) good (ap (λ (l : List ℕ). same l bytes) these ∙ same_refl bytes) in
-    and_left (all stands_of (byte_candidates n bytes)) (eqb (length (bytes_of n bytes)) (length bytes)) (sym (stand_same n bytes) ∙ both)
+    first_so (all stands_of (byte_candidates n bytes)) (eqb (length (bytes_of n bytes)) (length bytes)) (sym (stand_same n bytes) ∙ both)
 
 -- ---- the first pass: what is left to be looked at
 

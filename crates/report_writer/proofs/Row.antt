@@ -1,15 +1,15 @@
 -- The first of some rows, with its corner numbers: what it says, and when it stands. Assumes nothing.
 use mathlib.Core.Path.{◌≡◌, refl, sym, ap, ap₂, ◌∙◌, subst}
-use mathlib.Core.Bool.{Bool, true, ◌&&◌, and_assoc, and-true}
+use mathlib.Core.Bool.{Bool, true, false, true≢false, ◌&&◌, and_assoc, and-true}
 use mathlib.Core.List.{List, [], ◌∷◌, ◌++◌}
 use Prim.Native.Nat.{ℕ, zero, suc, ◌≤◌}
 use native.Mathlib.Nat.{not-suc-le-zero, le_of_suc-le-suc}
 use borrow.Author.Tests.{eqb-true, eq-eqb, ne_eqb}
 use lib.Dec.{eqb}
-use lib.Ieee.{Float, nan, binary32, to_bits, of_bits}
+use lib.Ieee.{Float, nan, inf, fin, is_nan, binary32, to_bits, of_bits}
 use lib.ListN.{length, get_or, drop, replicate}
 use Rattle.lists.specs.Tab.{tabulate}
-use Rattle.lists.proofs.Bools.{same_test, and_left}
+use Rattle.std.specs.Cmp.{both_ways, first_so}
 use Rattle.refusals.specs.Outcome.{Outcome, refused}
 use Rattle.points.specs.declared.Quad.{Quad}
 use Rattle.points.specs.Numbers.{quad_size, quad_at, numbers_of}
@@ -20,7 +20,7 @@ use Rattle.report.specs.Rows.{same, bits_of, front_row}
 use Rattle.report.specs.Steps.{begins_with, row_stands}
 use Rattle.report.proofs.Same.{begins_with_lem}
 use Rattle.report.proofs.Good.{Good, good_row_lem}
-use Rattle.report_writer.specs.Steps.{tag_row, no_corners}
+use Rattle.report_writer.specs.Steps.{tag_row, no_bits, no_corners}
 
 -- ---- what it says
 
@@ -38,7 +38,7 @@ module _ (rows : List ℕ) (corners : List Float) where
   unfolding row_stands
   stands_good h =
       let row = front_row rows corners in
-      and_left (good_row row) (begins_with (row_of row) rows && begins_with (bits_of (corners_of row)) (bits_of corners)) h
+      first_so (good_row row) (begins_with (row_of row) rows && begins_with (bits_of (corners_of row)) (bits_of corners)) h
 
   pub tag_good : row_stands rows corners ≡ true → get_or rows 0 0 ≡ 0 → Good front_tag
   tag_good h e = subst Good (front_tag_lem e) (good_row_lem (front_row rows corners) (stands_good h))
@@ -49,19 +49,26 @@ module _ (rows : List ℕ) (corners : List Float) where
 -- ---- when it stands
 
 -- the first n elements one by one, and the rest
-firsts {ℓ} : {A : Type ℓ} (n : ℕ) (l : List A) (d : A) → n ≤ length l → l ≡ tabulate n (λ i. get_or l i d) ++ drop n l
+pub firsts {ℓ} : {A : Type ℓ} (n : ℕ) (l : List A) (d : A) → n ≤ length l → l ≡ tabulate n (λ i. get_or l i d) ++ drop n l
 unfolding tabulate
 firsts zero l d h = refl
 firsts (suc n) [] d h = absurd (not-suc-le-zero h)
 firsts (suc n) (a ∷ l) d h = ap (λ (x : List _). a ∷ x) (firsts n l d (le_of_suc-le-suc h))
 
 zero_behind : (n : ℕ) → eqb 0 n ≡ eqb n 0
-zero_behind n = same_test (eqb 0 n) (eqb n 0) (λ h. eq-eqb n 0 (sym (eqb-true 0 n h))) (λ h. eq-eqb 0 n (sym (eqb-true n 0 h)))
+zero_behind n = both_ways (eqb 0 n) (eqb n 0) (λ h. eq-eqb n 0 (sym (eqb-true 0 n h))) (λ h. eq-eqb 0 n (sym (eqb-true n 0 h)))
 
 -- the zeros of a refused row and of its corners
 row_zero : (n b c d : ℕ) (l : List ℕ) → begins_with (n ∷ 0 ∷ 0 ∷ 0 ∷ []) (n ∷ b ∷ c ∷ d ∷ l) ≡ eqb b 0 && (eqb c 0 && eqb d 0)
 unfolding same
 row_zero n b c d l = simp (eq-eqb n n refl, zero_behind b, zero_behind c, zero_behind d, and-true)
+
+-- a NaN has bits
+pub nan_bits : (x : Float) → is_nan x ≡ true → no_bits x ≡ false
+unfolding is_nan to_bits
+nan_bits nan h = refl
+nan_bits (inf s) h = absurd (true≢false (sym h))
+nan_bits (fin s m e) h = absurd (true≢false (sym h))
 
 zero_bits : to_bits binary32 (of_bits binary32 0) ≡ 0
 unfolding to_bits of_bits

@@ -2,15 +2,12 @@
 use mathlib.Core.Path.{◌≡◌, refl, sym, ap, ap₂, ◌∙◌}
 use mathlib.Core.Bool.{Bool, true, false, ◌&&◌}
 use mathlib.Core.List.{List, [], ◌∷◌, ◌++◌, flat_map, map-append}
-use Prim.Native.Nat.{ℕ, zero, suc, ◌+◌, ◌*◌, ◌<◌}
-use native.Mathlib.Nat.{zero-add, suc-add, mul-suc}
-use native.Mathlib.Numerals.{add-one}
+use Prim.Native.Nat.{ℕ, zero, suc, ◌*◌}
 use native.Mathlib.Omega.{arith}
 use lib.Ieee.{Float, binary32, to_bits}
 use lib.ListN.{length, drop, length-drop, length-map}
-use lib.Seq.{drop-drop}
 use Rattle.lists.specs.Tab.{all}
-use Rattle.lists.proofs.Bools.{and_left, and_right}
+use Rattle.std.specs.Cmp.{first_so, second_so}
 use Rattle.lists.proofs.Flat.{length_flat}
 use Rattle.refusals.specs.Outcome.{Outcome}
 use Rattle.points.specs.Numbers.{quad_size}
@@ -25,34 +22,6 @@ use Rattle.report.proofs.Rows.{length-front_rows}
 use Rattle.report.proofs.Placed.{stands_of, said, Sound}
 use Rattle.report_writer.proofs.Row.{stands_good}
 
--- ---- the rows from number q on
-
-abbrev pub rows_from : List ℕ → ℕ → List ℕ
-rows_from rows q = drop (row_size * q) rows
-
-abbrev pub corners_from : List Float → ℕ → List Float
-corners_from corners q = drop (quad_size * q) corners
-
--- from part q on of what is behind the first part, and behind part q
-from_next : {A : Type 0} (w q : ℕ) (l : List A) → drop (w * q) (drop w l) ≡ drop (w * suc q) l
-from_next w q l =
-    let e : w + w * q ≡ w * suc q = omega (arith, mul-suc w q) in
-    drop-drop (w * q) w l ∙ ap (λ (n : ℕ). drop n l) e
-
-pub behind : {A : Type 0} (w q : ℕ) (l : List A) → drop w (drop (w * q) l) ≡ drop (w * (q + 1)) l
-behind w q l =
-    let e : w * q + w ≡ w * (q + 1) = sym (mul-suc w q) ∙ ap (λ (n : ℕ). w * n) (sym (add-one q)) in
-    drop-drop w (w * q) l ∙ ap (λ (n : ℕ). drop n l) e
-
-pub front_rows-add : (q k : ℕ) (rows : List ℕ) (corners : List Float)
-    → front_rows (q + k) rows corners ≡ front_rows q rows corners ++ front_rows k (rows_from rows q) (corners_from corners q)
-unfolding front_rows
-front_rows-add zero k rows corners = ap (λ (n : ℕ). front_rows n rows corners) (zero-add k)
-front_rows-add (suc q) k rows corners =
-    ap (λ (n : ℕ). front_rows n rows corners) (suc-add q k)
-    ∙ ap (λ (l : List (Outcome Tag)). front_row rows corners ∷ l) (front_rows-add q k (drop row_size rows) (drop quad_size corners)
-    ∙ ap₂ (λ (r : List ℕ) (c : List Float). front_rows q (drop row_size rows) (drop quad_size corners) ++ front_rows k r c) (from_next row_size q rows) (from_next quad_size q corners))
-
 -- ---- the rows as candidates
 
 pub said_is : (n : ℕ) (rows : List ℕ) (corners : List Float) → said (row_candidates n rows corners) ≡ front_rows n rows corners
@@ -64,16 +33,6 @@ pub sound : (n : ℕ) (rows : List ℕ) (corners : List Float) → Sound (row_ca
 unfolding row_candidates Sound
 sound zero rows corners = omega arith
 sound (suc n) rows corners = (stands_good rows corners, sound n (drop row_size rows) (drop quad_size corners))
-
--- each of them stands where all do
-pub stands_at_lem : (n q : ℕ) (rows : List ℕ) (corners : List Float) → q < n → all stands_of (row_candidates n rows corners) ≡ true
-    → row_stands (rows_from rows q) (corners_from corners q) ≡ true
-unfolding row_candidates all
-stands_at_lem zero q rows corners h a = absurd (omega arith)
-stands_at_lem (suc n) zero rows corners h a = and_left (row_stands rows corners) (all stands_of (row_candidates n (drop row_size rows) (drop quad_size corners))) a
-stands_at_lem (suc n) (suc q) rows corners h a =
-    sym (ap₂ row_stands (from_next row_size q rows) (from_next quad_size q corners))
-    ∙ stands_at_lem n q (drop row_size rows) (drop quad_size corners) (omega arith) (and_right (row_stands rows corners) (all stands_of (row_candidates n (drop row_size rows) (drop quad_size corners))) a)
 
 -- ---- all of them stand where they are good rows, and the numbers of such rows
 
@@ -139,13 +98,13 @@ module _ (rows : List ℕ) (corners : List Float) where
   module _ (h : is_rows rows corners ≡ true) where
     both_same : same (flat_map row_of (rows_say rows corners)) rows && same_bits (flat_map corners_of (rows_say rows corners)) corners ≡ true
     unfolding is_rows
-    both_same = let rows_said = rows_say rows corners in and_right (is_reading rows_said) (same (flat_map row_of rows_said) rows && same_bits (flat_map corners_of rows_said) corners) h
+    both_same = let rows_said = rows_say rows corners in second_so (is_reading rows_said) (same (flat_map row_of rows_said) rows && same_bits (flat_map corners_of rows_said) corners) h
 
     pub rows_whole : length rows ≡ row_size * count
     rows_whole =
         let rows_said = rows_say rows corners in
         let numbers = flat_map row_of rows_said in
-        ap length (sym (same-eq numbers rows (and_left (same numbers rows) (same_bits (flat_map corners_of rows_said) corners) both_same)))
+        ap length (sym (same-eq numbers rows (first_so (same numbers rows) (same_bits (flat_map corners_of rows_said) corners) both_same)))
         ∙ length_flat row_of row_size row_size_lem rows_said ∙ ap (λ (n : ℕ). row_size * n) (length-front_rows count rows corners)
 
     pub corners_whole : length corners ≡ quad_size * count
@@ -153,7 +112,7 @@ module _ (rows : List ℕ) (corners : List Float) where
         let rows_said = rows_say rows corners in
         let numbers = flat_map corners_of rows_said in
         sym (length-map corners (to_bits binary32))
-        ∙ ap length (sym (same-eq (bits_of numbers) (bits_of corners) (and_right (same (flat_map row_of rows_said) rows) (same_bits numbers corners) both_same)))
+        ∙ ap length (sym (same-eq (bits_of numbers) (bits_of corners) (second_so (same (flat_map row_of rows_said) rows) (same_bits numbers corners) both_same)))
         ∙ length-map numbers (to_bits binary32) ∙ length_flat corners_of quad_size corners_size rows_said ∙ ap (λ (n : ℕ). quad_size * n) (length-front_rows count rows corners)
 
   pub no_reading : (is_rows rows corners ≡ true → ⊥) → is_rows rows corners ≡ false

@@ -9,8 +9,8 @@ use lib.Dec.{eqb}
 use lib.ListN.{length, get_or, take, drop}
 use lib.Ieee.{Float, nan}
 use Rattle.lists.specs.Tab.{tabulate}
-use Rattle.lists.proofs.Bools.{or_left, or_right}
-use Rattle.lists.proofs.Grid.{row_of, column_of_lem}
+use Rattle.std.proofs.lemmas.Bool.{or_parts}
+use Rattle.std.proofs.lemmas.Nat.{div-mul-add, mod-mul-add}
 use Rattle.samples.specs.Samples.{zero_f}
 use Rattle.lists.proofs.Rows.{tabulate_ext, row_fits, row_length, row_read}
 use Rattle.response.specs.Response.{at_end, determinant_at, response_at}
@@ -38,8 +38,8 @@ module _ (above here below : List Float) (n x : ℕ) where
 -- off the ends there is a place on each side
 between : (n p : ℕ) → p < n → at_end n p ≡ false → (0 < p) × (p + 1 < n)
 between n p h e =
-    let a : p ≡ 0 → ⊥ = eqb-false p 0 (or_left (eqb p 0) (eqb (p + 1) n) e) in
-    let b : p + 1 ≡ n → ⊥ = eqb-false (p + 1) n (or_right (eqb p 0) (eqb (p + 1) n) e) in
+    let a : p ≡ 0 → ⊥ = eqb-false p 0 (or_parts (eqb p 0) (eqb (p + 1) n) e).0 in
+    let b : p + 1 ≡ n → ⊥ = eqb-false (p + 1) n (or_parts (eqb p 0) (eqb (p + 1) n) e).1 in
     (omega arith, omega arith)
 
 pick : (b : Bool) {v w : Float} → (b ≡ false → v ≡ w) → cond b zero_f v ≡ cond b zero_f w
@@ -60,7 +60,7 @@ module _ (img : List Float) (w h y : ℕ) where
 
   at_row : (x : ℕ) → x < w → response_at img w h (y * w + x) ≡ in_row x
   at_row x b =
-      ap₂ (λ (r c : ℕ). cond (at_end h r || at_end w c) zero_f (determinant_at (row (r - 1)) (row r) (row (r + 1)) c)) (row_of w y x b) (column_of_lem w y x b)
+      ap₂ (λ (r c : ℕ). cond (at_end h r || at_end w c) zero_f (determinant_at (row (r - 1)) (row r) (row (r + 1)) c)) (div-mul-add y w x b) (mod-mul-add y w x b)
 
   by_row : (x : ℕ) (t : Bool) → at_end h y ≡ t → in_row x ≡ cond (t || at_end w x) zero_f (determinant_at (row (y - 1)) (row y) (row (y + 1)) x)
   by_row x t e = ap (λ (q : Bool). cond (q || at_end w x) zero_f (determinant_at (row (y - 1)) (row y) (row (y + 1)) x)) e

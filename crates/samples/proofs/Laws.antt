@@ -4,7 +4,7 @@ use Rattle.std.proofs.Common.{◌≡◌, refl, sym, ap, ◌∙◌, ℕ, zero, su
 use Rattle.std.specs.Bool.{MatchBool}
 use Rattle.std.specs.List.{AllWithin, HoldsAt}
 use Rattle.std.specs.Simd.{first_chunks}
-use mathlib.Core.Bool.{and_assoc}
+use mathlib.Core.Bool.{and_assoc, and-false}
 use native.Mathlib.Nat.{mul_comm, suc-mul, zero-mul, mul-le-mul_right, not-suc-le-zero, le_of_suc-le-suc}
 use lib.Seq.{drop-drop}
 use lib.Ieee.{Float, binary32, of_bits, neg}
@@ -25,10 +25,6 @@ module _ {A : Type 0} (ok : A → Bool) (d : A) where
   all_not [] k h e = absurd (not-suc-le-zero h)
   all_not (v ∷ vs) zero h e = rw e
   all_not (v ∷ vs) (suc k) h e = rw (all_not vs k (le_of_suc-le-suc h) e) (and-false (ok v))
-    where
-      and-false : (b : Bool) → b && false ≡ false
-      and-false true = refl
-      and-false false = refl
 
   pub chain : (l : List A) (r : Bool) → MatchBool r (AllWithin (λ v. ok v ≡ true) l 0 (length l)) ((k : ℕ) × (k < length l) × HoldsAt (λ v. ok v ≡ false) l k) → r ≡ all ok l
   chain l true h = sym (all_of ok l d (λ k b. h k d (omega arith) b))

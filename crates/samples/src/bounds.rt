@@ -1,4 +1,4 @@
-// Between which two numbers samples have to lie.
+//! Between which two numbers samples have to lie.
 ghost use Rattle.std.specs.Prelude.{◌≡◌};
 ghost use Rattle.lists.specs.Tab.{all};
 ghost use Rattle.samples.specs.Samples.{between};
@@ -43,6 +43,6 @@ impl Bounds {
         blocks
             .iter()
             .all(|block| self.hold_lanes(f32x16::from_array(*block)))
-            && rest.iter().all(|&v| (self.low <= v) & (v <= self.high))
+            && rest.iter().all(|&v| self.low <= v && v <= self.high)
     }
 }

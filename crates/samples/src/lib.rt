@@ -11,7 +11,7 @@ use refusals::{Refusal, Shape, bad_plane};
 
 /// A lent plane of samples whose length fits its sides. What refusal 1 lets through is one; how large the sides may be is asked by that
 /// refusal alone.
-#[derive(Clone, Copy)]
+#[derive(Clone, Copy, Debug, PartialEq)]
 pub struct Plane<'a> {
     pub samples: &'a [f32],
     pub shape: Shape,

@@ -31,34 +31,32 @@ pub fn best_tag(bits: u64, hamming_distance: u8, codes: &[u64], edge: u8) -> Sea
     ensures count { result.compared ≡ compared bits hamming_distance codes.now edge }
     ensures bounded { result.compared ≤ 4 * length codes.now }
 {
-    // While no code is near, the match threshold stands in its place: so one comparison a code tells whether it is the nearest.
-    let mut best = Match {
-        id: 0,
-        turn: 0,
-        differing: hamming_distance,
-    };
+    // What is nearer than `nearest` becomes what was found. As it begins at the match threshold, one comparison a code tells both
+    // whether the code is near and whether it is the nearest.
+    let mut nearest = hamming_distance;
+    let mut found = None;
     let mut seen = bits;
     let mut compared = 0;
     'turns: for turn in 0..4 {
         for (id, &code) in codes.iter().enumerate() {
             compared += 1;
             let differing = word::differing_bits(seen, code) as u8;
-            if differing < best.differing {
-                best = Match {
+            if differing < nearest {
+                nearest = differing;
+                found = Some(Match {
                     id,
                     turn,
                     differing,
-                };
+                });
                 if differing == 0 {
                     break 'turns;
                 }
             }
         }
-        if best.differing < hamming_distance {
+        if found.is_some() {
             break;
         }
         seen = word::rotate_bits(seen, edge);
     }
-    let found = (best.differing < hamming_distance).then_some(best);
     SearchResult { found, compared }
 }

@@ -6,7 +6,7 @@ use grid::Grid;
 use muosleap_paint::sheet::{paint_sheet, paint_sheet_in};
 use points::{QUAD_SIZE, rotate_left};
 use refusals::Refusal;
-use vectors::answers::{Answer, number_of};
+use vectors::answers::Answer;
 use vectors::{Tally, product};
 
 /// What is painted: the grid, and the tag at its position 0, but with the grid's print. The other tags have its table and frame.
@@ -28,6 +28,7 @@ impl Board<'_> {
     fn paint(&self, plane: &mut [u8], quads: &mut [f32]) -> Result<(), Refusal> {
         let tag = self.tag;
         let table = tag.table;
+        // Each painting takes things of its own, here and where a tag is painted or read.
         match table.number {
             Some(number) => paint_sheet_in(plane, tag.frame, number, self.grid, tag.print, quads),
             None => paint_sheet(
@@ -42,10 +43,10 @@ impl Board<'_> {
         }
     }
 
-    /// Paints it into the first bytes of `plane`, only to see what refuses it, 0 where nothing does.
-    pub fn refusal(&self, plane: &mut [u8]) -> u8 {
+    /// Paints it into the first bytes of `plane`, only to see whether it is refused.
+    pub fn try_paint(&self, plane: &mut [u8]) -> Result<(), Refusal> {
         let mut room = [9.0f32; 8200];
-        number_of(self.paint(self.tag.own_plane(plane), &mut room))
+        self.paint(self.tag.own_plane(plane), &mut room)
     }
 
     /// Paints it into the first bytes of `plane`, and counts the readings of its tags and whether the numbers behind the quads are left.
@@ -115,7 +116,7 @@ impl PaintedBoard<'_> {
         for (id, numbers) in self.quads.iter().enumerate() {
             let tag = Tag { id, ..self.first };
             let expected = tag.expected(points::quad_at(numbers, 0), start);
-            tally.add(Answer::of_row(rows, corners, id) == expected, id);
+            tally.add(Answer::of_row(rows, corners, id) == Some(expected), id);
         }
     }
 }

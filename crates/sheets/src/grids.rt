@@ -6,46 +6,22 @@ use grid::Grid;
 use refusals::packed_frame;
 use std::io;
 use vectors::Tally;
+use vectors::answers::number_of;
 
 /// The grids of every table: four have a side of 0 or 33 tags, and others more tags than the table has codes.
-const SIDES: [Sides; 9] = [
-    Sides {
-        rows: 0,
-        columns: 1,
-    },
-    Sides {
-        rows: 1,
-        columns: 0,
-    },
-    Sides {
-        rows: 33,
-        columns: 1,
-    },
-    Sides {
-        rows: 1,
-        columns: 33,
-    },
-    Sides {
-        rows: 32,
-        columns: 32,
-    },
-    Sides {
-        rows: 12,
-        columns: 12,
-    },
-    Sides {
-        rows: 1,
-        columns: 32,
-    },
-    Sides {
-        rows: 32,
-        columns: 1,
-    },
-    Sides {
-        rows: 1,
-        columns: 1,
-    },
-];
+fn sides() -> [Sides; 9] {
+    [
+        Sides::new(0, 1),
+        Sides::new(1, 0),
+        Sides::new(33, 1),
+        Sides::new(1, 33),
+        Sides::new(32, 32),
+        Sides::new(12, 12),
+        Sides::new(1, 32),
+        Sides::new(32, 1),
+        Sides::new(1, 1),
+    ]
+}
 
 /// The gap and the cell of a sheet.
 #[derive(Clone, Copy, Debug, PartialEq, Eq)]
@@ -119,18 +95,15 @@ impl Sides {
         if self.is_good(table.codes.len()) {
             println!(rt; ": {}", self.count(table, plane))
         } else {
-            let refusal = self.board(table, 0, SPACINGS[0]).refusal(plane);
-            println!(rt; " refused by {refusal}")
+            let answer = self.board(table, 0, SPACINGS[0]).try_paint(plane);
+            println!(rt; " refused by {}", number_of(answer))
         }
     }
 }
 
 /// The lines of a table.
 pub fn print(rt: &impl Print, table: &Tried, plane: &mut [u8]) -> io::Result<()> {
-    for sides in SIDES {
-        sides.print(rt, table, plane)?;
-    }
-    for sides in table.grids {
+    for sides in sides().iter().chain(&table.grids) {
         sides.print(rt, table, plane)?;
     }
     Ok(())

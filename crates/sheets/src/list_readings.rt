@@ -2,6 +2,7 @@
 use crate::tags::{Misprint, Shown, Tag};
 use crate::tried::Tried;
 use points::{QUAD_SIZE, rotate_left};
+use refusals::Refusal;
 use std::{fmt, io};
 use vectors::Tally;
 use vectors::answers::Answer;
@@ -50,20 +51,24 @@ impl Starts {
         }
     }
 
-    /// What row i is to be: the tag, or refusal 18 where another quad gives its id too.
+    /// What row i is to be: the tag, or refused as repeated where another quad gives its id too.
     fn row(self, shown: &Shown, i: usize) -> Answer {
         if self.count < 2 {
             shown.tag.expected(shown.quad, self.start(i))
         } else {
-            Answer::refused(18)
+            Answer::refused(Refusal::Repeated.number())
         }
     }
 
     /// How many of the rows and corners of the list are as they are to be.
     fn count_rows(self, shown: &Shown, rows: &[u64], corners: &[f32]) -> Tally {
         let mut tally = Tally::new();
+        // i is the quad's start, and its place in the count.
         for i in 0..self.count {
-            tally.add(Answer::of_row(rows, corners, i) == self.row(shown, i), i);
+            tally.add(
+                Answer::of_row(rows, corners, i) == Some(self.row(shown, i)),
+                i,
+            );
         }
         tally
     }

@@ -1,4 +1,4 @@
-//! The single tags of a table that are painted and read, in three ways.
+//! The single tags of a table that are painted and read, in three ways. A tag is made by its id, so loops go over numbers.
 use crate::tags::{Misprint, Tag};
 use crate::tried::Tried;
 use refusals::packed_frame;

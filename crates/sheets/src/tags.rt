@@ -159,12 +159,9 @@ impl Shown<'_> {
         let turned = rotate_left(self.quad, start);
         let expected = self.tag.expected(self.quad, start);
         let lent = try_decode_quad(self.plane, frame, table.family, table.codes, turned);
-        let is_known = match table.number {
-            Some(number) => {
-                Answer::from(try_decode_quad_in(self.plane, frame, number, turned)) == expected
-            }
-            None => true,
-        };
+        let is_known = table.number.is_none_or(|number| {
+            Answer::from(try_decode_quad_in(self.plane, frame, number, turned)) == expected
+        });
         is_known && Answer::from(lent) == expected
     }
 

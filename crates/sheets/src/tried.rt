@@ -30,7 +30,7 @@ pub struct Sides {
 }
 
 impl Sides {
-    const fn new(rows: usize, columns: usize) -> Self {
+    pub const fn new(rows: usize, columns: usize) -> Self {
         Sides { rows, columns }
     }
 }

@@ -7,7 +7,7 @@ use borrow.Author.Tests.{ltb-true, ltb-false, not-false}
 use lib.Dec.{ltb}
 use lib.ListN.{length, get_or}
 use Rattle.lists.specs.Tab.{all}
-use Rattle.lists.proofs.Bools.{or_left, or_right}
+use Rattle.std.proofs.lemmas.Bool.{or_parts}
 use Rattle.lists.proofs.All.{all_at}
 use Rattle.tables.specs.Table.{outside, bad_edge, bad_border, in_square, bad_codes, bad_table}
 use Rattle.tables.specs.declared.Family.{Family}
@@ -18,7 +18,7 @@ pub record Within (lo hi n : ℕ) : Type 0 where
   pub most : n ≤ hi
 
 pub within : (lo hi n : ℕ) → outside lo hi n ≡ false → Within lo hi n
-within lo hi n e = record { least = ltb-false n lo (or_left (ltb n lo) (ltb hi n) e); most = ltb-false hi n (or_right (ltb n lo) (ltb hi n) e) }
+within lo hi n e = record { least = ltb-false n lo (or_parts (ltb n lo) (ltb hi n) e).0; most = ltb-false hi n (or_parts (ltb n lo) (ltb hi n) e).1 }
 
 pub good_edge : (edge : ℕ) → bad_edge edge ≡ false → Within 1 8 edge
 good_edge edge e = within 1 8 edge e
@@ -37,13 +37,13 @@ pub good_codes : (edge threshold : ℕ) (codes : List ℕ) → bad_codes edge th
 unfolding bad_codes
 good_codes edge threshold codes e =
     let fit = not (all (in_square edge) codes) in
-    let e₁ = or_right (bad_edge edge) (outside 1 1024 (length codes) || (outside 1 64 threshold || fit)) e in
-    let e₂ = or_right (outside 1 1024 (length codes)) (outside 1 64 threshold || fit) e₁ in
-    let ok = not-false (all (in_square edge) codes) (or_right (outside 1 64 threshold) fit e₂) in
+    let e₁ = (or_parts (bad_edge edge) (outside 1 1024 (length codes) || (outside 1 64 threshold || fit)) e).1 in
+    let e₂ = (or_parts (outside 1 1024 (length codes)) (outside 1 64 threshold || fit) e₁).1 in
+    let ok = not-false (all (in_square edge) codes) (or_parts (outside 1 64 threshold) fit e₂).1 in
     record {
-      edges = good_edge edge (or_left (bad_edge edge) (outside 1 1024 (length codes) || (outside 1 64 threshold || fit)) e);
-      count = within 1 1024 (length codes) (or_left (outside 1 1024 (length codes)) (outside 1 64 threshold || fit) e₁);
-      near = within 1 64 threshold (or_left (outside 1 64 threshold) fit e₂);
+      edges = good_edge edge (or_parts (bad_edge edge) (outside 1 1024 (length codes) || (outside 1 64 threshold || fit)) e).0;
+      count = within 1 1024 (length codes) (or_parts (outside 1 1024 (length codes)) (outside 1 64 threshold || fit) e₁).0;
+      near = within 1 64 threshold (or_parts (outside 1 64 threshold) fit e₂).0;
       small = λ k h. ltb-true (get_or codes k 0) (2 ^ (edge * edge)) (all_at (in_square edge) codes k 0 ok h);
     }
 
@@ -57,18 +57,18 @@ unfolding bad_table
 good_table family codes e =
     let c = bad_codes family.edge family.hamming_distance codes in
     record {
-      borders = good_border family.border (or_left (bad_border family.border) c e);
-      coded = good_codes family.edge family.hamming_distance codes (or_right (bad_border family.border) c e);
+      borders = good_border family.border (or_parts (bad_border family.border) c e).0;
+      coded = good_codes family.edge family.hamming_distance codes (or_parts (bad_border family.border) c e).1;
     }
 
 -- its border and its edge by themselves
 pub table_border : (family : Family) (codes : List ℕ) → bad_table family codes ≡ false → bad_border family.border ≡ false
 unfolding bad_table
-table_border family codes e = or_left (bad_border family.border) (bad_codes family.edge family.hamming_distance codes) e
+table_border family codes e = (or_parts (bad_border family.border) (bad_codes family.edge family.hamming_distance codes) e).0
 
 pub table_edge : (family : Family) (codes : List ℕ) → bad_table family codes ≡ false → bad_edge family.edge ≡ false
 unfolding bad_table bad_codes
 table_edge family codes e =
     let edge = bad_edge family.edge in
     let rest = outside 1 1024 (length codes) || (outside 1 64 family.hamming_distance || not (all (in_square family.edge) codes)) in
-    or_left edge rest (or_right (bad_border family.border) (edge || rest) e)
+    (or_parts edge rest (or_parts (bad_border family.border) (edge || rest) e).1).0

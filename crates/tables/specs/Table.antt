@@ -1,6 +1,6 @@
 -- Refusal 6: "table with edge outside 1..8, border outside 1..4, no code or above 1,024 codes, match threshold outside 1..64,
 -- or a code of 2^(edge²) or more". The ranges include both ends. Assumes nothing.
-use Rattle.std.specs.Prelude.{ℕ, ◌*◌, ◌^◌, Bool, not, ◌||◌, List, ltb, length}
+use Rattle.std.specs.Prelude.{ℕ, ◌+◌, ◌*◌, ◌^◌, Bool, not, ◌||◌, List, ltb, length}
 use Rattle.lists.specs.Tab.{all}
 use Rattle.tables.specs.declared.Family.{Family}
 
@@ -31,3 +31,7 @@ bad_codes edge threshold codes =
 unfoldable pub bad_table : Family → List ℕ → Bool
 unfolding bad_codes
 bad_table family codes = bad_border family.border || bad_codes family.edge family.hamming_distance codes
+
+-- "side = edge + 2 × border": the modules of a tag's side, its border included
+abbrev pub side_of : ℕ → ℕ → ℕ
+side_of edge border = edge + 2 * border

@@ -1,4 +1,4 @@
-// Tables that refusal 6 lets through.
+//! Tables that refusal 6 lets through.
 ghost use Rattle.std.specs.Prelude.{◌≡◌, true, false, IfOk, IfErr};
 ghost use Rattle.tables.specs.Table.{bad_table};
 
@@ -6,7 +6,7 @@ use crate::{Family, bad_table};
 use refusals::Refusal;
 
 /// A lent table that has been checked.
-#[derive(Clone, Copy)]
+#[derive(Clone, Copy, Debug, PartialEq, Eq)]
 pub struct Table<'a> {
     pub family: Family,
     pub codes: &'a [u64],

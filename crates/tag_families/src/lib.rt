@@ -1,5 +1,5 @@
-// The families of the original: their code lists, and the small table of edge, border and match threshold.
-// Family numbers: 0 T16H5, 1 T25H7, 2 T25H9, 3 T36H11, 4 T36H11B1 (the codes of T36H11 in a border of 1).
+//! The families of the original: their code lists, and the small table of edge, border and match threshold.
+//! Family numbers: 0 T16H5, 1 T25H7, 2 T25H9, 3 T36H11, 4 T36H11B1 (the codes of T36H11 in a border of 1).
 #![tactic(auto)]
 
 pub mod codes;
@@ -40,7 +40,7 @@ static FAMILIES: [Family; 5] = [
     },
 ];
 
-/// What the small table says of a family.
+/// What the small table says of a family. Families go by their numbers, as document 01 has it and C gives them.
 pub fn family(number: u8) -> Family
     requires { number < 5 }
     ensures { result ≡ family_of number }
@@ -69,7 +69,7 @@ pub fn code_count(number: u8) -> usize
     codes_of(number).len()
 }
 
-/// The code of a family at a position, which is a word of edge² bits.
+/// The code of a family at a position, which is a word of edge² bits: here the bound of a list's codes is carried to each position.
 pub fn code(number: u8, position: usize) -> u64
     requires { (number < 5) × (position < length (codes_of number)) }
     ensures { (result ≡ get_or (codes_of number) position 0) × (result < 2 ^ ((family_of number).edge * (family_of number).edge)) }

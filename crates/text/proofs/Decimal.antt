@@ -23,14 +23,21 @@ unfolding decimal_within
 two_digits zero l h = absurd (not-suc-le-zero l)
 two_digits (suc m) l h = simp (le-ltb (suc m) 10 l, one_within m (suc m / 10) (omega arith))
 
+-- how long that is
+pub one_long : (n : ℕ) → n < 10 → length (decimal n) ≡ 1
+one_long n h = ap length (one_digit n h)
+
+pub two_long : (n : ℕ) → 10 ≤ n → n < 100 → length (decimal n) ≡ 2
+two_long n l h = ap length (two_digits n l h)
+
 pub decimal-length : (n : ℕ) → n < 100 → length (decimal n) ≤ 2
 decimal-length n h = elim (dec_lt n 10) [
-  | yes l ↦ omega (arith, ap length (one_digit n l))
-  | no g ↦ omega (arith, ap length (two_digits n (omega arith) h))
+  | yes l ↦ omega (arith, one_long n l)
+  | no g ↦ omega (arith, two_long n (omega arith) h)
 ]
 
 pub decimal_some : (n : ℕ) → n < 100 → 0 < length (decimal n)
 decimal_some n h = elim (dec_lt n 10) [
-  | yes l ↦ omega (arith, ap length (one_digit n l))
-  | no g ↦ omega (arith, ap length (two_digits n (omega arith) h))
+  | yes l ↦ omega (arith, one_long n l)
+  | no g ↦ omega (arith, two_long n (omega arith) h)
 ]

@@ -1,9 +1,11 @@
 -- One text put after another is the two put together. Assumes nothing.
-use Rattle.std.proofs.Common.{◌≡◌, ℕ, ◌+◌, ◌≤◌, List, [], ◌++◌, length, take, drop, refl, sym, ap, ◌∙◌, append_assoc, append-nil, arith, length-append, take-append-drop, subst}
+use Rattle.std.proofs.Common.{◌≡◌, ℕ, ◌+◌, ◌≤◌, ◌<◌, ◌/◌, ◌%◌, List, [], ◌∷◌, ◌++◌, length, take, drop, refl, sym, ap, ◌∙◌, append_assoc, append-nil, arith, length-append, take-append-drop, subst}
 use native.Mathlib.Nat.{zero-add, add-zero, add_assoc}
 use lib.ListN.{drop_of_length-le}
 use lib.Seq.{take_at, drop-drop, drop-append-add, length-take-le}
 use Rattle.text.specs.declared.Output.{Output}
+use Rattle.text.specs.Text.{decimal}
+use Rattle.text.proofs.Decimal.{one_digit, two_digits, two_long}
 use Rattle.text.specs.Put.{Put, HasRoom, written, Printed}
 
 module _ (text buffer : List ℕ) (at : ℕ) (room : at + length text ≤ length buffer) where
@@ -61,3 +63,11 @@ put_front {text} {old} {new} front p =
       number = number;
       bytes = p.bytes ∙ ap (λ (n : ℕ). written old.bytes.now n text) front ∙ ap (λ (n : ℕ). text ++ drop n old.bytes.now) (zero-add (length text) ∙ sym number);
     }
+
+-- a number's one digit, or its two, one put after the other
+pub put_digit : {n : ℕ} {old new : Output} → n < 10 → Put ((48 + n) ∷ []) old new → Put (decimal n) old new
+put_digit {n} h p = as_text (sym (one_digit n h)) p
+
+pub put_digits : {n : ℕ} {old middle new : Output} → 10 ≤ n → n < 100 → HasRoom old (length (decimal n))
+    → Put ((48 + n / 10) ∷ []) old middle → Put ((48 + n % 10) ∷ []) middle new → Put (decimal n) old new
+put_digits {n} l h room p q = put_more (sym (two_digits n l h)) (omega (arith, two_long n l h)) p q

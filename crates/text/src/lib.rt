@@ -1,4 +1,4 @@
-// Bytes, of a text or of a report, put into a buffer piece by piece.
+//! Bytes, of a text or of a report, put into a buffer piece by piece.
 #![tactic(auto)]
 
 ghost use Rattle.std.specs.Prelude.{◌≡◌, [], ◌∷◌, ◌<◌, length};
@@ -32,13 +32,13 @@ impl<'a> Output<'a> {
         self.at += 1;
     }
 
-    /// Puts a number of one or two digits in decimal.
+    /// Puts a number of one or two digits in decimal. It cannot fail, where std's writers answer a `Result`.
+    #[tactic(auto, using(crate::proofs::Decimal::one_long, crate::proofs::Decimal::two_long, crate::proofs::Join::put_digit, crate::proofs::Join::put_digits))]
     pub fn put_decimal(&mut self, n: u8)
         requires { (n < 100) × HasRoom self.old (length (decimal n)) }
         ensures { Put (decimal n) self.old self.new }
     {
-        let is_digit = n < 10;
-        if is_digit {
+        if n < 10 {
             self.put_byte(b'0' + n);
         } else {
             self.put_byte(b'0' + n / 10);

@@ -11,14 +11,14 @@ ghost use Rattle.threshold.specs.Threshold.{lesser, lowest_of, lowest, threshold
 use samples::TAME;
 use std::simd::prelude::*;
 
-// The lesser of two, `a` where they are equal.
+/// The lesser of two, `a` where they are equal.
 fn lesser(a: f32, b: f32) -> f32
     ensures { result ≡ lesser a b }
 {
     if b < a { b } else { a }
 }
 
-// The lowest of `low` and the samples.
+/// The lowest of `low` and the samples.
 fn lowest_of(low: f32, samples: &[f32]) -> f32
     ensures { result ≡ lowest_of low samples.now }
 {
@@ -29,15 +29,16 @@ fn lowest_of(low: f32, samples: &[f32]) -> f32
     least
 }
 
-// Lowers each lane to the sample at its place.
+/// Lowers each lane to the sample at its place.
 fn lower_each(lanes: f32x16, samples: f32x16) -> f32x16
     ensures { result ≡ zip2 (λ a b. cond (le a b) a b) lanes samples }
 {
     lanes.simd_le(samples).select(lanes, samples)
 }
 
-// The lowest sample, or `None` where one has a magnitude above 65,536 or is a NaN. Where the lowest is a zero, the answer may be
-// either zero. Sixteen lanes are gathered side by side, since each step of a single one would wait for the step before it.
+/// The lowest sample, or `None` where one has a magnitude above 65,536 or is a NaN. Where the lowest is a zero, the answer may be
+/// either zero. Sixteen lanes are gathered side by side, since each step of a single one would wait for the step before it. The
+/// tests are gathered too: to leave at the first that fails would cost a branch in each turn.
 fn find_lowest(samples: &[f32]) -> Option<f32>
     requires { 0 < length samples.now }
     ensures tame { IsSome result ↔ (all tame samples.now ≡ true) }
@@ -45,21 +46,17 @@ fn find_lowest(samples: &[f32]) -> Option<f32>
 {
     let (blocks, rest) = samples.as_chunks::<16>();
     let mut lanes = f32x16::splat(samples[0]);
+    let mut tame = true;
     for block in blocks {
         let block_lanes = f32x16::from_array(*block);
-        if !TAME.hold_lanes(block_lanes) {
-            return None;
-        }
+        tame &= TAME.hold_lanes(block_lanes);
         lanes = lower_each(lanes, block_lanes);
     }
-    if !TAME.hold(rest) {
-        return None;
-    }
     let gathered = lowest_of(samples[0], &lanes.to_array());
-    Some(lowest_of(gathered, rest))
+    (tame && TAME.hold(rest)).then_some(lowest_of(gathered, rest))
 }
 
-// The lowest sample times 0.05, where a zero is +0.0.
+/// The lowest sample times 0.05, where a zero is +0.0.
 fn threshold_of(low: f32) -> f32
     ensures { result ≡ threshold_of low }
 {

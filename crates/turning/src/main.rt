@@ -1,4 +1,4 @@
-// Prints the tables of turned places from the formula, a line for each edge from 4 to 6.
+//! Prints the tables of turned places from the formula, a line for each edge from 4 to 6.
 #![tactic(auto)]
 
 use std::io;

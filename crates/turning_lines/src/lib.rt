@@ -1,4 +1,4 @@
-// What `turning` prints: the tables of `word`, worked out anew from the formula.
+//! What `turning` prints: the tables of `word`, worked out anew from the formula.
 #![tactic(auto)]
 
 ghost use Rattle.std.specs.Prelude.{◌≡◌, ◌*◌, ◌≤◌, ◌<◌, length};
@@ -8,7 +8,7 @@ ghost use Rattle.turning_lines.specs.Turning.{line, turning};
 
 use text::Output;
 
-// The place that the bit at place `k` of a turned square comes from.
+/// The place that the bit at place `k` of a turned square comes from.
 fn source_of(edge: u64, k: u64) -> u8
     requires { (0 < edge) × (edge ≤ 8) × (k < edge * edge) }
     ensures { (result ≡ source edge k) × (result < 64) }
@@ -16,7 +16,7 @@ fn source_of(edge: u64, k: u64) -> u8
     word::source_place(edge, k / edge, k % edge) as u8
 }
 
-// Puts the line of an edge.
+/// Puts the line of an edge.
 fn put_line(edge: u64, output: &mut Output)
     requires { (0 < edge) × (edge ≤ 8) × HasRoom output.old (length (line edge)) }
     ensures { Put (line edge) output.old output.new }
@@ -28,7 +28,7 @@ fn put_line(edge: u64, output: &mut Output)
     output.put_byte(b'\n');
 }
 
-// Puts the three lines into a buffer that has just their bytes.
+/// Puts the three lines into a buffer that has just their bytes.
 fn put_lines(text: &mut [u8])
     requires { length text.old ≡ 201 }
     ensures { text.new ≡ turning }

@@ -1,12 +1,12 @@
 //! The answer of a reader of quads, from whatever says it: a reading, a row of a list, or the bytes of a frame. Floats stand in it by
 //! their patterns, so that two answers are equal where they are bit for bit, a NaN like every other.
-ghost use Rattle.std.specs.Prelude.{◌≡◌, IfOk, IfErr};
+ghost use Rattle.std.specs.Prelude.{◌≡◌, drop, IfOk, IfErr};
 ghost use Rattle.refusals.specs.Numbers;
 
-use crate::floats::{f32_at, pattern_of};
-use crate::{rest, u8_at, u16_at};
+use crate::fields::Fields;
+use crate::floats::{Samples, pattern_of};
 use listing::ROW_SIZE;
-use points::{Point, QUAD_SIZE, Quad};
+use points::{QUAD_SIZE, Quad};
 use reader::Reading;
 use refusals::Refusal;
 
@@ -30,41 +30,19 @@ impl Corners {
     pub fn all(x: f32) -> Self {
         Corners([pattern_of(x); QUAD_SIZE])
     }
-
-    /// The corners in 32 bytes.
-    pub fn at(s: &[u8]) -> Self {
-        Corners::from(quad_at(s))
-    }
 }
 
 impl From<[f32; QUAD_SIZE]> for Corners {
     fn from(numbers: [f32; QUAD_SIZE]) -> Self {
-        Corners(numbers.map(pattern_of))
+        Corners(numbers.map(|x| pattern_of(x)))
     }
 }
 
 impl From<Quad> for Corners {
     fn from(quad: Quad) -> Self {
-        let Quad { q0, q1, q2, q3 } = quad;
-        Corners::from([q0.x, q0.y, q1.x, q1.y, q2.x, q2.y, q3.x, q3.y])
-    }
-}
-
-fn point_at(s: &[u8], at: usize) -> Point {
-    let t = rest(s, at);
-    Point {
-        x: f32_at(t, 0),
-        y: f32_at(t, 4),
-    }
-}
-
-/// A quad of eight floats in 32 bytes.
-pub fn quad_at(s: &[u8]) -> Quad {
-    Quad {
-        q0: point_at(s, 0),
-        q1: point_at(s, 8),
-        q2: point_at(s, 16),
-        q3: point_at(s, 24),
+        let mut numbers = [0.0; QUAD_SIZE];
+        points::put_quad(&mut numbers, 0, quad);
+        Corners::from(numbers)
     }
 }
 
@@ -107,31 +85,19 @@ impl Answer {
         }
     }
 
-    /// An answer in 37 bytes. Bytes that there are not are 0.
-    pub fn at(s: &[u8]) -> Self {
-        Answer {
-            refusal: u64::from(u8_at(s, 0)),
-            id: u64::from(u16_at(s, 1)),
-            turn: u64::from(u8_at(s, 3)),
-            differing: u64::from(u8_at(s, 4)),
-            corners: Corners::at(rest(s, 5)),
-        }
-    }
-
-    /// Row q of a list; an answer that no reader gives where there is none.
-    pub fn of_row(rows: &[u64], corners: &[f32], q: usize) -> Self {
+    /// Row q of a list, if there is one.
+    pub fn of_row(rows: &[u64], corners: &[f32], q: usize) -> Option<Self> {
         let (rows, _) = rows.as_chunks::<ROW_SIZE>();
         let (quads, _) = corners.as_chunks::<QUAD_SIZE>();
-        match (rows.get(q), quads.get(q)) {
-            (Some([refusal, id, turn, differing]), Some(numbers)) => Answer {
-                refusal: *refusal,
-                id: *id,
-                turn: *turn,
-                differing: *differing,
-                corners: Corners::from(*numbers),
-            },
-            _ => Answer::refused(255),
-        }
+        let [refusal, id, turn, differing] = *rows.get(q)?;
+        let numbers = *quads.get(q)?;
+        Some(Answer {
+            refusal,
+            id,
+            turn,
+            differing,
+            corners: Corners::from(numbers),
+        })
     }
 }
 
@@ -145,6 +111,30 @@ impl From<Reading> for Answer {
                 corners,
             } => Answer::found(id, turn, differing, Corners::from(corners)),
             Reading::Refused(number) => Answer::refused(number),
+        }
+    }
+}
+
+impl Fields<'_> {
+    /// A quad, in eight floats.
+    pub fn quad(&mut self) -> Quad
+        ensures { self.new.left.now ≡ drop 32 self.old.left.now }
+    {
+        let mut numbers = [0.0; QUAD_SIZE];
+        Samples::Each(self.take(4 * QUAD_SIZE)).fill(&mut numbers);
+        points::quad_at(&numbers, 0)
+    }
+
+    /// An answer, in 37 bytes.
+    pub fn answer(&mut self) -> Answer
+        ensures { self.new.left.now ≡ drop 37 self.old.left.now }
+    {
+        Answer {
+            refusal: u64::from(self.u8()),
+            id: u64::from(self.u16()),
+            turn: u64::from(self.u8()),
+            differing: u64::from(self.u8()),
+            corners: Corners::from(self.quad()),
         }
     }
 }

@@ -1,21 +1,13 @@
 //! Floats by their bit patterns: lists that a frame gives, and lists held against a frame.
+ghost use Rattle.std.specs.Prelude.{◌≡◌, drop};
+
 use crate::digest::Digest;
-use crate::{next_number, u32_at};
-use std::num::{f32_from_bits_with_nan, f32_to_bits_with_nan, nearest_u32_to_f32};
+use crate::fields::Fields;
+use crate::next_number;
+use std::num::nearest_u32_to_f32;
 
-/// The float of a pattern. A NaN's pattern gives a NaN.
-pub fn float_of(pattern: u32) -> f32 {
-    f32_from_bits_with_nan(pattern)
-}
-
-/// The pattern of a float, the same for every NaN.
-pub fn pattern_of(x: f32) -> u32 {
-    f32_to_bits_with_nan(x)
-}
-
-pub fn f32_at(s: &[u8], at: usize) -> f32 {
-    float_of(u32_at(s, at))
-}
+/// The float of a pattern, where a NaN's pattern gives a NaN, and the pattern of a float, the same for every NaN.
+pub use std::num::{f32_from_bits_with_nan as float_of, f32_to_bits_with_nan as pattern_of};
 
 /// How a list of floats is given.
 #[derive(Clone, Copy, Debug)]
@@ -24,28 +16,39 @@ pub enum Samples<'a> {
     Each(&'a [u8]),
     /// By the generator from a seed, each from 0.0 to below 1.0 by the upper 24 bits of a number.
     Drawn(u64),
-    /// By four bytes that are passed over, a value, a place and another value, which is at that place alone.
-    ButOne(&'a [u8]),
+    /// All with one value, but for the float at one place.
+    ButOne { most: f32, place: usize, one: f32 },
     /// By the bits of a number, the lowest first: -1.0 for a one and 0.0 for a zero.
     Bits(u64),
 }
 
 impl Samples<'_> {
+    /// One value, a place, and the other value, in four bytes each.
+    pub fn but_one(fields: &mut Fields) -> Self
+        ensures { fields.new.left.now ≡ drop 12 fields.old.left.now }
+    {
+        Samples::ButOne {
+            most: fields.f32(),
+            place: fields.u32() as usize,
+            one: fields.f32(),
+        }
+    }
+
     /// Fills a list.
     pub fn fill(self, out: &mut [f32]) {
         match self {
             Samples::Each(s) => fill_each(s, out),
             Samples::Drawn(seed) => fill_drawn(seed, out),
-            Samples::ButOne(s) => fill_but_one(s, out),
+            Samples::ButOne { most, place, one } => fill_but_one(most, place, one, out),
             Samples::Bits(bits) => fill_bits(bits, out),
         }
     }
 }
 
 fn fill_each(s: &[u8], out: &mut [f32]) {
-    out.fill(0.0);
-    for (x, pattern) in out.iter_mut().zip(s.chunks(4)) {
-        *x = f32_at(pattern, 0);
+    let mut fields = Fields::new(s);
+    for x in out {
+        *x = fields.f32();
     }
 }
 
@@ -57,10 +60,10 @@ fn fill_drawn(seed: u64, out: &mut [f32]) {
     }
 }
 
-fn fill_but_one(s: &[u8], out: &mut [f32]) {
-    out.fill(f32_at(s, 4));
-    if let Some(x) = out.get_mut(u32_at(s, 8) as usize) {
-        *x = f32_at(s, 12);
+fn fill_but_one(most: f32, place: usize, one: f32, out: &mut [f32]) {
+    out.fill(most);
+    if let Some(x) = out.get_mut(place) {
+        *x = one;
     }
 }
 
@@ -74,11 +77,12 @@ fn fill_bits(bits: u64, out: &mut [f32]) {
 
 /// Whether a list is, bit for bit, as long a list of floats as the four bytes each in `s`.
 pub fn are_alike(s: &[u8], xs: &[f32]) -> bool {
-    s.len() / 4 == xs.len()
+    let (patterns, _) = s.as_chunks::<4>();
+    patterns.len() == xs.len()
         && xs
             .iter()
-            .zip(s.chunks(4))
-            .all(|(x, pattern)| pattern_of(*x) == u32_at(pattern, 0))
+            .zip(patterns)
+            .all(|(x, pattern)| pattern_of(*x).to_le_bytes() == *pattern)
 }
 
 impl Digest {

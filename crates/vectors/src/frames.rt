@@ -2,7 +2,7 @@
 ghost use Rattle.std.specs.Prelude.{◌-◌, length};
 ghost use Rattle.std.specs.Iterator.{at_most};
 
-use crate::bytes::{rest, u16_at};
+use crate::fields::Fields;
 use std::fmt;
 
 /// A number that no kind of frame has.
@@ -45,12 +45,10 @@ impl<'a> Iterator for Frames<'a> {
         if self.file.len() <= at {
             return None;
         }
-        let left = &self.file[at..];
-        let size = left.len().min(2 + u16_at(left, 0) as usize);
-        self.at = at + size;
-        Some(Frame {
-            at,
-            bytes: rest(&left[..size], 2),
-        })
+        let mut fields = Fields::new(&self.file[at..]);
+        let size = usize::from(fields.u16());
+        let bytes = fields.take(size);
+        self.at = at + 2 + bytes.len();
+        Some(Frame { at, bytes })
     }
 }

@@ -1,18 +1,19 @@
-//! What the programs that replay vectors share: the frames of a file, numbers in bytes, the count of what is alike, the generator of
-//! numbers and the digest. tools/oracle/README.md has the formats.
+//! What the programs that replay vectors share: the frames of a file and their fields, the count of what is alike, the generator of
+//! numbers and the digest. tools/oracle/README.md has the formats. Buffers are arrays as large as any frame needs: on the heap each would bring
+//! an allocator and a `?` into functions that cannot fail.
 #![tactic(auto)]
 
 pub mod answers;
-pub mod bytes;
 pub mod digest;
+pub mod fields;
 pub mod floats;
 pub mod frames;
 pub mod tally;
 
 ghost use Rattle.std.specs.Prelude.{◌≡◌, ◌≤◌};
 
-pub use bytes::{first, rest, u8_at, u16_at, u32_at, u64_at};
-pub use tally::Tally;
+pub use fields::Fields;
+pub use tally::{Tally, replay};
 
 /// a times b, as the samples of a plane, but at most `most`.
 pub fn product(a: usize, b: usize, most: usize) -> usize

@@ -1,6 +1,7 @@
 //! The count of what is alike.
-ghost use Rattle.std.specs.Prelude.{◌≡◌, true, false};
+ghost use Rattle.std.specs.Prelude.{◌≡◌, true, false, Ok};
 
+use crate::frames::{Frames, UnknownKind};
 use std::fmt;
 
 /// How many vectors were replayed, how many gave what they say, and where the last that did not stands in its file.
@@ -45,4 +46,17 @@ impl fmt::Display for Tally {
         }
         Ok(())
     }
+}
+
+/// Counts the frames of a file, by a function that tells whether a frame is alike. One of a kind that is not known is not. Where every
+/// frame is alike, `other` stays 0.
+pub fn replay<F: Fn(&[u8]) -> Result<bool, UnknownKind>>(file: &[u8], is_alike: F) -> Tally
+    requires { F.IsAlwaysCallable is_alike }
+    ensures { ((frame : _) (answer : _) → F.post is_alike frame answer → answer ≡ Ok true) → result.other ≡ 0 }
+{
+    let mut tally = Tally::new();
+    for frame in Frames::new(file) {
+        tally.add(is_alike(frame.bytes).unwrap_or(false), frame.at);
+    }
+    tally
 }

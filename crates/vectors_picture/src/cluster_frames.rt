@@ -2,11 +2,11 @@
 use crate::planes;
 use muosleap_picture::saddles::{cluster_center, init_saddle_clusters};
 use refusals::Shape;
+use vectors::Fields;
 use vectors::answers::number_of;
 use vectors::digest::Digest;
-use vectors::floats::{Samples, are_alike, f32_at, pattern_of};
+use vectors::floats::{Samples, are_alike, pattern_of};
 use vectors::frames::UnknownKind;
-use vectors::{rest, u8_at, u16_at, u32_at, u64_at};
 
 #[derive(Clone, Copy, Debug, PartialEq, Eq)]
 enum Kind {
@@ -36,64 +36,43 @@ impl TryFrom<u8> for Kind {
 /// What rows hold before a call.
 const UNTOUCHED: u64 = 7;
 
-/// The rows that a frame gives hold its numbers of two bytes, and the others what they held.
-fn expected(numbers: &[u8], k: usize, whole: usize) -> u64 {
-    if k / 3 < whole {
-        return u64::from(u16_at(numbers, k << 1));
-    }
-    UNTOUCHED
+/// Whether rows hold the numbers of two bytes in `s`, as many whole rows as fit, and the others what they held.
+fn are_rows_alike(s: &[u8], rows: &[u64]) -> bool {
+    let (said, _) = s.as_chunks::<6>();
+    let (whole, left) = rows.split_at(rows.len() / 3 * 3);
+    let (filled, others) = whole.split_at(3 * said.len().min(rows.len() / 3));
+    let mut fields = Fields::new(s);
+    filled.iter().all(|row| *row == u64::from(fields.u16()))
+        && others.iter().chain(left).all(|row| *row == UNTOUCHED)
 }
 
-/// Whether rows are those of a frame with `total` clusters, as far as they fit.
-fn are_rows_alike(numbers: &[u8], total: usize, rows: &[u64]) -> bool {
-    let whole = total.min(rows.len() / 3);
-    rows.iter()
-        .enumerate()
-        .all(|(k, row)| *row == expected(numbers, k, whole))
-}
-
-fn is_plane_alike(frame: &[u8]) -> bool {
-    let mut plane = [0.0f32; 4096];
+fn is_plane_alike(mut fields: Fields) -> bool {
+    let mut plane = [0.0f32; planes::MOST_SAMPLES];
     let mut worklist = [0u32; 12289];
     let mut rows = [UNTOUCHED; 512];
-    let n = planes::count(frame);
-    let total = u16_at(frame, 9) as usize;
+    let shape = planes::small_shape(&mut fields);
+    let n = planes::count(shape);
+    let threshold = fields.f32();
+    let rows = &mut rows[..usize::from(fields.u16()).min(512)];
+    let total = usize::from(fields.u16());
+    let said = fields.take(6 * total);
     let plane = &mut plane[..n];
-    let rows = &mut rows[..(u16_at(frame, 7) as usize).min(512)];
-    let s = rest(frame, 11 + 6 * total);
-    Samples::Each(s).fill(plane);
-    let got = init_saddle_clusters(
-        plane,
-        planes::shape(frame),
-        f32_at(frame, 3),
-        &mut worklist[..3 * n + 1],
-        rows,
-    );
-    got == Ok(total)
-        && are_rows_alike(rest(frame, 11), total, rows)
-        && are_alike(rest(s, 4 * n), plane)
+    Samples::Each(fields.take(4 * n)).fill(plane);
+    let got = init_saddle_clusters(plane, shape, threshold, &mut worklist[..3 * n + 1], rows);
+    got == Ok(total) && are_rows_alike(said, rows) && are_alike(fields.rest(), plane)
 }
 
-fn is_number_alike(frame: &[u8]) -> bool {
+fn is_number_alike(mut fields: Fields) -> bool {
     let mut plane = [0.0f32; 4100];
     let mut worklist = [0u32; 12300];
     let mut rows = [UNTOUCHED; 3];
-    let plane = &mut plane[..planes::length_at(frame, 18, 4100)];
-    Samples::ButOne(rest(frame, 18)).fill(plane);
-    let got = init_saddle_clusters(
-        plane,
-        planes::wide_shape(rest(frame, 1)),
-        f32_at(frame, 34),
-        &mut worklist[..planes::length_at(frame, 38, 12300)],
-        &mut rows,
-    );
-    number_of(got) == u8_at(frame, 17)
-}
-
-/// Adds the low two bytes of a number.
-fn add_u16(digest: &mut Digest, number: u64) {
-    let [low, high, ..] = number.to_le_bytes();
-    digest.add(&[low, high]);
+    let shape = planes::wide_shape(&mut fields);
+    let said = fields.u8();
+    let plane = &mut plane[..(fields.u32() as usize).min(4100)];
+    Samples::but_one(&mut fields).fill(plane);
+    let threshold = fields.f32();
+    let worklist = &mut worklist[..(fields.u32() as usize).min(12300)];
+    number_of(init_saddle_clusters(plane, shape, threshold, worklist, &mut rows)) == said
 }
 
 /// Adds the total, the rows and the plane after a call for the plane of one pattern.
@@ -102,40 +81,40 @@ fn add_pattern(digest: &mut Digest, pattern: u32, shape: Shape, plane: &mut [f32
     let mut rows = [0u64; 48];
     Samples::Bits(u64::from(pattern)).fill(plane);
     let total = init_saddle_clusters(plane, shape, -0.5, &mut worklist, &mut rows).unwrap_or(0);
-    add_u16(digest, total as u64);
+    digest.add(&total.to_le_bytes()[..2]);
     for row in &rows[..3 * total.min(16)] {
-        add_u16(digest, *row);
+        digest.add(&row.to_le_bytes()[..2]);
     }
     digest.add_floats(plane);
 }
 
 /// The digest of all patterns.
-fn is_digest_alike(frame: &[u8]) -> bool {
+fn is_digest_alike(mut fields: Fields) -> bool {
     let mut plane = [0.0f32; 16];
     let mut digest = Digest::new();
-    let n = planes::count(frame).min(16);
+    let shape = planes::small_shape(&mut fields);
+    let n = planes::count(shape).min(16);
     for pattern in 0..1 << n {
-        add_pattern(&mut digest, pattern, planes::shape(frame), &mut plane[..n]);
+        add_pattern(&mut digest, pattern, shape, &mut plane[..n]);
     }
-    digest.value() == u64_at(frame, 3)
+    digest.value() == fields.u64()
 }
 
-fn is_center_alike(frame: &[u8]) -> bool {
-    let s = rest(frame, 25);
-    match cluster_center(u64_at(frame, 1), u64_at(frame, 9), u64_at(frame, 17)) {
-        Ok(p) => {
-            u8_at(s, 0) == 0 && pattern_of(p.x) == u32_at(s, 1) && pattern_of(p.y) == u32_at(s, 5)
-        }
-        Err(refusal) => refusal.number() == u8_at(s, 0),
+fn is_center_alike(mut fields: Fields) -> bool {
+    let answer = cluster_center(fields.u64(), fields.u64(), fields.u64());
+    let said = fields.u8();
+    match answer {
+        Ok(p) => said == 0 && pattern_of(p.x) == fields.u32() && pattern_of(p.y) == fields.u32(),
+        Err(refusal) => refusal.number() == said,
     }
 }
 
-pub fn is_alike(frame: &[u8]) -> bool {
-    match Kind::try_from(u8_at(frame, 0)) {
-        Ok(Kind::Plane) => is_plane_alike(frame),
-        Ok(Kind::Patterns) => is_digest_alike(frame),
-        Ok(Kind::Center) => is_center_alike(frame),
-        Ok(Kind::Number) => is_number_alike(frame),
-        Err(_) => false,
-    }
+pub fn is_alike(frame: &[u8]) -> Result<bool, UnknownKind> {
+    let mut fields = Fields::new(frame);
+    Ok(match Kind::try_from(fields.u8())? {
+        Kind::Plane => is_plane_alike(fields),
+        Kind::Patterns => is_digest_alike(fields),
+        Kind::Center => is_center_alike(fields),
+        Kind::Number => is_number_alike(fields),
+    })
 }

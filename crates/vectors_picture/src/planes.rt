@@ -7,7 +7,7 @@ use vectors::answers::number_of;
 use vectors::digest::Digest;
 use vectors::floats::{Samples, are_alike, pattern_of};
 use vectors::frames::UnknownKind;
-use vectors::{first, product, rest, u8_at, u32_at, u64_at};
+use vectors::{Fields, product};
 
 /// How a frame gives a picture, and what it says of the planes that the call makes.
 #[derive(Clone, Copy, Debug, PartialEq, Eq)]
@@ -43,34 +43,30 @@ impl TryFrom<u8> for Kind {
     }
 }
 
-/// Most frames have the sides in their second and third byte.
-pub fn shape(frame: &[u8]) -> Shape {
+/// The sides, in two bytes.
+pub fn small_shape(fields: &mut Fields) -> Shape {
     Shape {
-        width: u8_at(frame, 1) as usize,
-        height: u8_at(frame, 2) as usize,
+        width: usize::from(fields.u8()),
+        height: usize::from(fields.u8()),
     }
 }
+
+/// The same in numbers of eight bytes.
+pub fn wide_shape(fields: &mut Fields) -> Shape {
+    Shape {
+        width: fields.u64() as usize,
+        height: fields.u64() as usize,
+    }
+}
+
+/// The most samples of a plane whose sides are given in two bytes.
+pub const MOST_SAMPLES: usize = 4096;
 
 /// The number of samples.
-pub fn count(frame: &[u8]) -> usize
-    ensures { result ≤ 4096 }
+pub fn count(shape: Shape) -> usize
+    ensures { result ≤ MOST_SAMPLES }
 {
-    product(u8_at(frame, 1) as usize, u8_at(frame, 2) as usize, 4096)
-}
-
-/// A length that a frame gives, at most `most`.
-pub fn length_at(frame: &[u8], at: usize, most: usize) -> usize
-    ensures { result ≤ most }
-{
-    (u32_at(frame, at) as usize).min(most)
-}
-
-/// The sides of a frame that says which number a call answers.
-pub fn wide_shape(s: &[u8]) -> Shape {
-    Shape {
-        width: u64_at(s, 0) as usize,
-        height: u64_at(s, 8) as usize,
-    }
+    product(shape.width, shape.height, MOST_SAMPLES)
 }
 
 /// An entry on planes.
@@ -128,10 +124,9 @@ impl Says<'_> {
     fn is_left(self, number: u8, temp: &[f32], out: &[f32]) -> bool {
         match self {
             Says::Planes(s) => {
-                let between = temp.len().saturating_mul(4);
-                number == 0
-                    && are_alike(first(s, between), temp)
-                    && are_alike(rest(s, between), out)
+                let mut fields = Fields::new(s);
+                let between = fields.take(temp.len().saturating_mul(4));
+                number == 0 && are_alike(between, temp) && are_alike(fields.rest(), out)
             }
             Says::Digest(said) => {
                 let mut digest = Digest::new();
@@ -145,25 +140,25 @@ impl Says<'_> {
 }
 
 impl Form {
-    /// The samples of a picture that `s` gives.
-    fn samples(self, s: &[u8]) -> Samples<'_> {
+    /// The samples of a picture, as many as `n`.
+    fn samples<'a>(self, fields: &mut Fields<'a>, n: usize) -> Samples<'a> {
         match self {
-            Form::Whole => Samples::Each(s),
-            Form::Drawn => Samples::Drawn(u64_at(s, 0)),
+            Form::Whole => Samples::Each(fields.take(n.saturating_mul(4))),
+            Form::Drawn => Samples::Drawn(fields.u64()),
         }
     }
 
-    /// What stands in `s` behind a picture of `n` samples.
-    fn says(self, s: &[u8], n: usize) -> Says<'_> {
+    /// What stands behind a picture.
+    fn says<'a>(self, fields: &mut Fields<'a>) -> Says<'a> {
         match self {
-            Form::Whole => Says::Planes(rest(s, n.saturating_mul(4))),
-            Form::Drawn => Says::Digest(u64_at(s, 8)),
+            Form::Whole => Says::Planes(fields.rest()),
+            Form::Drawn => Says::Digest(fields.u64()),
         }
     }
 }
 
 /// The longest plane that a call is lent.
-const MOST_SAMPLES: usize = 4100;
+const LONGEST_PLANE: usize = 4100;
 
 /// The longest list of weights.
 const MOST_WEIGHTS: usize = 20;
@@ -184,66 +179,66 @@ struct Call<'a> {
 }
 
 impl<'a> Call<'a> {
-    /// A blur has the number of weights in its fourth byte, and then the weights.
-    fn blur(form: Form, frame: &'a [u8]) -> Self {
-        let n = count(frame);
-        let weights = usize::from(u8_at(frame, 3)).min(16);
-        let s = rest(frame, 4 + 4 * weights);
+    /// A blur has the sides, the number of weights, and then the weights.
+    fn blur(form: Form, mut fields: Fields<'a>) -> Self {
+        let shape = small_shape(&mut fields);
+        let n = count(shape);
+        let weights = usize::from(fields.u8()).min(16);
         Call {
             entry: Entry::Blur,
-            shape: shape(frame),
-            picture: form.samples(s),
-            img: n,
-            kernel: Samples::Each(rest(frame, 4)),
+            shape,
+            kernel: Samples::Each(fields.take(4 * weights)),
             weights,
+            picture: form.samples(&mut fields, n),
+            img: n,
             temp: n,
             out: n,
-            says: form.says(s, n),
+            says: form.says(&mut fields),
         }
     }
 
     /// A response has no weights, and no plane between.
-    fn response(form: Form, frame: &'a [u8]) -> Self {
-        let n = count(frame);
-        let s = rest(frame, 3);
+    fn response(form: Form, mut fields: Fields<'a>) -> Self {
+        let shape = small_shape(&mut fields);
+        let n = count(shape);
         Call {
             entry: Entry::Response,
-            shape: shape(frame),
-            picture: form.samples(s),
+            shape,
+            picture: form.samples(&mut fields, n),
             img: n,
             kernel: Samples::Each(&[]),
             weights: 0,
             temp: 0,
             out: n,
-            says: form.says(s, n),
+            says: form.says(&mut fields),
         }
     }
 
     /// A call of any entry, of which the frame says the number that it answers.
-    fn number(frame: &'a [u8]) -> Result<Self, UnknownKind> {
+    fn number(mut fields: Fields<'a>) -> Result<Self, UnknownKind> {
         Ok(Call {
-            entry: Entry::try_from(u8_at(frame, 1))?,
-            shape: wide_shape(rest(frame, 2)),
-            picture: Samples::ButOne(rest(frame, 19)),
-            img: u32_at(frame, 19) as usize,
-            kernel: Samples::ButOne(rest(frame, 35)),
-            weights: u32_at(frame, 35) as usize,
-            temp: u32_at(frame, 51) as usize,
-            out: u32_at(frame, 55) as usize,
-            says: Says::Number(u8_at(frame, 18)),
+            entry: Entry::try_from(fields.u8())?,
+            shape: wide_shape(&mut fields),
+            says: Says::Number(fields.u8()),
+            img: fields.u32() as usize,
+            picture: Samples::but_one(&mut fields),
+            weights: fields.u32() as usize,
+            kernel: Samples::but_one(&mut fields),
+            temp: fields.u32() as usize,
+            out: fields.u32() as usize,
         })
     }
 
     /// Whether the call leaves what the frame says.
     fn is_alike(self) -> bool {
-        let mut img = [0.0f32; MOST_SAMPLES];
+        let mut img = [0.0f32; LONGEST_PLANE];
         let mut weights = [0.0f32; MOST_WEIGHTS];
-        let mut temp = [0.0f32; MOST_SAMPLES];
-        let mut out = [0.0f32; MOST_SAMPLES];
-        let img = &mut img[..self.img.min(MOST_SAMPLES)];
+        let mut temp = [0.0f32; LONGEST_PLANE];
+        let mut out = [0.0f32; LONGEST_PLANE];
+        let img = &mut img[..self.img.min(LONGEST_PLANE)];
         let weights = &mut weights[..self.weights.min(MOST_WEIGHTS)];
-        let temp = &mut temp[..self.temp.min(MOST_SAMPLES)];
-        let out = &mut out[..self.out.min(MOST_SAMPLES)];
+        let temp = &mut temp[..self.temp.min(LONGEST_PLANE)];
+        let out = &mut out[..self.out.min(LONGEST_PLANE)];
         self.picture.fill(img);
         self.kernel.fill(weights);
         let number = self.entry.call(img, self.shape, weights, temp, out);
@@ -251,25 +246,22 @@ impl<'a> Call<'a> {
     }
 }
 
-fn is_threshold_alike(frame: &[u8]) -> bool {
-    let mut plane = [0.0f32; 4096];
-    let plane = &mut plane[..count(frame)];
-    Samples::Each(rest(frame, 7)).fill(plane);
-    match response_threshold(plane, shape(frame)) {
-        Ok(lowest) => pattern_of(lowest) == u32_at(frame, 3),
-        Err(_) => false,
-    }
+/// A threshold stands between the sides and the plane.
+fn is_threshold_alike(mut fields: Fields) -> bool {
+    let mut plane = [0.0f32; MOST_SAMPLES];
+    let shape = small_shape(&mut fields);
+    let said = fields.u32();
+    let plane = &mut plane[..count(shape)];
+    Samples::Each(fields.rest()).fill(plane);
+    response_threshold(plane, shape).is_ok_and(|lowest| pattern_of(lowest) == said)
 }
 
-pub fn is_alike(frame: &[u8]) -> bool {
-    match Kind::try_from(u8_at(frame, 0)) {
-        Ok(Kind::Blur(form)) => Call::blur(form, frame).is_alike(),
-        Ok(Kind::Response(form)) => Call::response(form, frame).is_alike(),
-        Ok(Kind::Threshold) => is_threshold_alike(frame),
-        Ok(Kind::Number) => match Call::number(frame) {
-            Ok(call) => call.is_alike(),
-            Err(_) => false,
-        },
-        Err(_) => false,
-    }
+pub fn is_alike(frame: &[u8]) -> Result<bool, UnknownKind> {
+    let mut fields = Fields::new(frame);
+    Ok(match Kind::try_from(fields.u8())? {
+        Kind::Blur(form) => Call::blur(form, fields).is_alike(),
+        Kind::Response(form) => Call::response(form, fields).is_alike(),
+        Kind::Threshold => is_threshold_alike(fields),
+        Kind::Number => Call::number(fields)?.is_alike(),
+    })
 }

@@ -7,77 +7,100 @@ use points::QUAD_SIZE;
 use refusals::Refusal;
 use vectors::digest::Digest;
 use vectors::floats::pattern_of;
-use vectors::{first, product, u8_at, u16_at, u64_at};
+use vectors::{Fields, product};
 
-/// What the outputs hold before a call.
-pub const BYTE: u8 = 165;
+/// A number of an output.
+pub trait Number: Copy {
+    /// What an output holds before a call.
+    const BEFORE: Self;
 
-pub const NUMBER: u64 = 0xa5a5_a5a5_a5a5_a5a5;
+    /// Whether it is that, bit for bit.
+    fn is_before(&self) -> bool;
 
-pub const FLOAT: f32 = 165.0;
-
-/// The pattern of that.
-const PATTERN: u32 = 0x4325_0000;
-
-/// Room for every report, and for the rows and the corners of 1,026 rows.
-pub fn bytes_before() -> [u8; 65536]
-    ensures { 65536 ≡ length result }
-{
-    [BYTE; 65536]
+    /// Takes it into a digest.
+    fn add_to(&self, digest: &mut Digest);
 }
 
-pub fn rows_before() -> [u64; 4104]
-    ensures { 4104 ≡ length result }
-{
-    [NUMBER; 4104]
+impl Number for u8 {
+    const BEFORE: u8 = 165;
+
+    fn is_before(&self) -> bool {
+        *self == Self::BEFORE
+    }
+
+    fn add_to(&self, digest: &mut Digest) {
+        digest.add_u8(*self);
+    }
 }
 
-pub fn corners_before() -> [f32; 8208]
-    ensures { 8208 ≡ length result }
-{
-    [FLOAT; 8208]
+impl Number for u64 {
+    const BEFORE: u64 = 0xa5a5_a5a5_a5a5_a5a5;
+
+    fn is_before(&self) -> bool {
+        *self == Self::BEFORE
+    }
+
+    fn add_to(&self, digest: &mut Digest) {
+        digest.add(&self.to_le_bytes());
+    }
 }
 
-/// The refusal number, 0 where there is none; how many bytes were written or rows read, and their digest, both 0 where the call is
-/// refused; and whether all else in the outputs is as before.
-#[derive(Clone, Copy, Debug, PartialEq, Eq)]
-pub struct Outcome {
-    pub refusal: u8,
+impl Number for f32 {
+    const BEFORE: f32 = 165.0;
+
+    fn is_before(&self) -> bool {
+        pattern_of(*self) == pattern_of(Self::BEFORE)
+    }
+
+    fn add_to(&self, digest: &mut Digest) {
+        digest.add_floats(&[*self]);
+    }
+}
+
+/// An output before a call. Every report has room in 65,536 bytes, and 1,026 rows in 4,104 numbers and 8,208 corner numbers.
+pub fn before<T: Number, const N: usize>() -> [T; N]
+    ensures { N ≡ length result }
+{
+    [T::BEFORE; N]
+}
+
+/// How many bytes were written or rows read, and their digest.
+#[derive(Clone, Copy, Debug, Default, PartialEq, Eq)]
+pub struct Output {
     pub count: usize,
     pub digest: u64,
+}
+
+/// The output of a call, or the number of its refusal; and whether all else that was lent is as before.
+#[derive(Clone, Copy, Debug, PartialEq, Eq)]
+pub struct Outcome {
+    pub output: Result<Output, u8>,
     pub kept: bool,
 }
 
 impl Outcome {
-    /// What a frame says of a call: behind its kind the refusal, the count and the digest.
-    pub fn at(frame: &[u8]) -> Self {
+    /// What a frame says of a call: 0 or the refusal, the count and the digest, both 0 where the call is refused.
+    pub fn read(fields: &mut Fields) -> Self {
+        let number = fields.u8();
+        let output = Output {
+            count: usize::from(fields.u16()),
+            digest: fields.u64(),
+        };
         Outcome {
-            refusal: u8_at(frame, 1),
-            count: u16_at(frame, 2) as usize,
-            digest: u64_at(frame, 4),
+            output: if number == 0 { Ok(output) } else { Err(number) },
             kept: true,
         }
     }
 
     /// What a call answered, and what was seen of its outputs.
     fn new(answer: Result<usize, Refusal>, seen: Seen) -> Self {
-        let (refusal, count, digest) = match answer {
-            Ok(count) => (0, count, seen.digest.value()),
-            Err(refusal) => (refusal.number(), 0, 0),
-        };
+        let digest = seen.digest.value();
         Outcome {
-            refusal,
-            count,
-            digest,
+            output: match answer {
+                Ok(count) => Ok(Output { count, digest }),
+                Err(refusal) => Err(refusal.number()),
+            },
             kept: seen.kept,
-        }
-    }
-
-    /// An accepted call is also to be taken back.
-    fn taken_back(self, back: bool) -> Self {
-        Outcome {
-            kept: self.kept & (back | (self.refusal != 0)),
-            ..self
         }
     }
 }
@@ -97,62 +120,53 @@ impl Seen {
         }
     }
 
-    /// With a report, of which `count` bytes were given.
-    fn with_report(mut self, count: usize, report: &[u8]) -> Self {
-        let (given, left) = report.split_at(count.min(report.len()));
-        self.digest.add(given);
-        self.kept &= left.iter().all(|byte| *byte == BYTE);
-        self
-    }
-
-    /// With rows, of which `count` were given.
-    fn with_rows(mut self, count: usize, rows: &[u64]) -> Self {
-        let (given, left) = rows.split_at(product(count, ROW_SIZE, rows.len()));
+    /// With an output, of which the first `count` numbers were given.
+    fn with<T: Number>(mut self, count: usize, output: &[T]) -> Self {
+        let (given, left) = output.split_at(count.min(output.len()));
         for number in given {
-            self.digest.add(&number.to_le_bytes());
+            number.add_to(&mut self.digest);
         }
-        self.kept &= left.iter().all(|number| *number == NUMBER);
+        self.kept &= left.iter().all(|number| number.is_before());
         self
     }
 
-    /// With the corners of rows, of which `count` were given.
-    fn with_corners(mut self, count: usize, corners: &[f32]) -> Self {
-        let (given, left) = corners.split_at(product(count, QUAD_SIZE, corners.len()));
-        self.digest.add_floats(given);
-        self.kept &= left.iter().all(|x| pattern_of(*x) == PATTERN);
-        self
+    /// With `count` rows that were given, and their corners.
+    fn with_rows(self, count: usize, rows: &[u64], corners: &[f32]) -> Self {
+        self.with(count.saturating_mul(ROW_SIZE), rows)
+            .with(count.saturating_mul(QUAD_SIZE), corners)
     }
 }
 
 fn write(rows: &[u64], corners: &[f32], report: &mut [u8]) -> Outcome {
     let answer = write_report(rows, corners, report);
-    Outcome::new(answer, Seen::new().with_report(answer.unwrap_or(0), report))
+    Outcome::new(answer, Seen::new().with(answer.unwrap_or(0), report))
 }
 
 fn read(report: &[u8], rows: &mut [u64], corners: &mut [f32]) -> Outcome {
     let answer = read_report(report, rows, corners);
-    let count = answer.unwrap_or(0);
-    let seen = Seen::new()
-        .with_rows(count, rows)
-        .with_corners(count, corners);
-    Outcome::new(answer, seen)
+    Outcome::new(
+        answer,
+        Seen::new().with_rows(answer.unwrap_or(0), rows, corners),
+    )
 }
 
 /// Whether a report is read as these rows and corners, bit for bit, with room to spare.
 fn reads_as(report: &[u8], rows: &[u64], corners: &[f32]) -> bool {
-    let mut own_rows = rows_before();
-    let mut own_corners = corners_before();
+    let mut own_rows = before::<u64, 4104>();
+    let mut own_corners = before::<f32, 8208>();
     let count = rows.len() / ROW_SIZE;
-    let seen = Seen::new()
-        .with_rows(count, rows)
-        .with_corners(count, corners);
+    let seen = Seen::new().with_rows(count, rows, corners);
     read(report, &mut own_rows, &mut own_corners) == Outcome::new(Ok(count), seen)
 }
 
-/// Writes a reading, and reads it back.
+/// Writes a reading, and reads back what is accepted.
 pub fn write_and_back(rows: &[u64], corners: &[f32], report: &mut [u8]) -> Outcome {
-    let got = write(rows, corners, report);
-    got.taken_back(reads_as(first(report, got.count), rows, corners))
+    let mut got = write(rows, corners, report);
+    if let Ok(Output { count, .. }) = got.output {
+        let given = &report[..count.min(report.len())];
+        got.kept &= reads_as(given, rows, corners);
+    }
+    got
 }
 
 /// Whether the first `count` rows and their corners are written as this report, into `own`.
@@ -160,16 +174,19 @@ fn writes_as(rows: &[u64], corners: &[f32], count: usize, report: &[u8], own: &m
     let rows = &rows[..product(count, ROW_SIZE, rows.len())];
     let corners = &corners[..product(count, QUAD_SIZE, corners.len())];
     let count = report.len();
-    write(rows, corners, own) == Outcome::new(Ok(count), Seen::new().with_report(count, report))
+    write(rows, corners, own) == Outcome::new(Ok(count), Seen::new().with(count, report))
 }
 
-/// Reads a report, and writes it back.
+/// Reads a report, and writes back what is accepted.
 pub fn read_and_back(
     report: &[u8],
     rows: &mut [u64],
     corners: &mut [f32],
     own: &mut [u8],
 ) -> Outcome {
-    let got = read(report, rows, corners);
-    got.taken_back(writes_as(rows, corners, got.count, report, own))
+    let mut got = read(report, rows, corners);
+    if let Ok(Output { count, .. }) = got.output {
+        got.kept &= writes_as(rows, corners, count, report, own);
+    }
+    got
 }

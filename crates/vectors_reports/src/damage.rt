@@ -1,8 +1,10 @@
 //! Frames of a small report that is damaged at each place with each byte, and read each time.
+ghost use Rattle.std.specs.Prelude.{◌≤◌};
+
 use crate::calls;
-use crate::calls::Outcome;
+use crate::calls::{Outcome, Output};
+use vectors::Fields;
 use vectors::digest::Digest;
-use vectors::{first, rest, u8_at};
 
 /// At the place stands the byte, instead of as many bytes of the report as are skipped: none, one, two, or all.
 #[derive(Clone, Copy, Debug, PartialEq, Eq)]
@@ -12,34 +14,34 @@ struct Damage {
     skipped: usize,
 }
 
-/// Byte k afterwards.
-fn byte_after(damage: Damage, report: &[u8], k: usize) -> u8 {
-    if k < damage.place {
-        return u8_at(report, k);
+impl Damage {
+    /// The report afterwards, at the front, and its length.
+    fn damaged(self, report: &[u8]) -> ([u8; 128], usize)
+        ensures { result.1 ≤ 128 }
+    {
+        let mut copy = [0u8; 128];
+        let mut fields = Fields::new(report);
+        let before = fields.take(self.place);
+        fields.take(self.skipped);
+        let after = fields.rest();
+        let bytes = before
+            .iter()
+            .copied()
+            .chain([self.byte])
+            .chain(after.iter().copied());
+        for (to, from) in copy.iter_mut().zip(bytes) {
+            *to = from;
+        }
+        (copy, (before.len() + 1 + after.len()).min(128))
     }
-    if k == damage.place {
-        return damage.byte;
-    }
-    u8_at(rest(report, damage.skipped), k - 1)
-}
-
-/// The report afterwards, at the front.
-fn damaged(damage: Damage, report: &[u8]) -> [u8; 128] {
-    let mut copy = [0u8; 128];
-    for (k, byte) in copy.iter_mut().enumerate() {
-        *byte = byte_after(damage, report, k);
-    }
-    copy
 }
 
 fn read_damaged(damage: Damage, report: &[u8]) -> Outcome {
-    let copy = damaged(damage, report);
-    let mut rows = [calls::NUMBER; 32];
-    let mut corners = [calls::FLOAT; 64];
-    let mut own = [calls::BYTE; 128];
-    let left = rest(rest(report, damage.place), damage.skipped);
-    let n = damage.place.min(126) + 1 + left.len().min(126);
-    calls::read_and_back(first(&copy, n), &mut rows, &mut corners, &mut own)
+    let (copy, size) = damage.damaged(report);
+    let mut rows = calls::before::<u64, 32>();
+    let mut corners = calls::before::<f32, 64>();
+    let mut own = calls::before::<u8, 128>();
+    calls::read_and_back(&copy[..size], &mut rows, &mut corners, &mut own)
 }
 
 /// All outcomes as one: how many were accepted, and the digest of them.
@@ -52,11 +54,12 @@ struct Sum {
 
 impl Sum {
     fn add(&mut self, got: Outcome) {
-        let [count, ..] = got.count.to_le_bytes();
-        self.digest.add(&[got.refusal, count]);
-        self.digest.add(&got.digest.to_le_bytes());
+        let Output { count, digest } = got.output.unwrap_or_default();
+        self.digest.add_u8(got.output.err().unwrap_or(0));
+        self.digest.add(&count.to_le_bytes()[..1]);
+        self.digest.add(&digest.to_le_bytes());
         self.kept &= got.kept;
-        if got.refusal == 0 {
+        if got.output.is_ok() {
             self.accepted = self.accepted.saturating_add(1);
         }
     }
@@ -80,13 +83,17 @@ fn read_all(skipped: usize, report: &[u8]) -> Outcome {
         }
     }
     Outcome {
-        refusal: 0,
-        count: sum.accepted,
-        digest: sum.digest.value(),
+        output: Ok(Output {
+            count: sum.accepted,
+            digest: sum.digest.value(),
+        }),
         kept: sum.kept,
     }
 }
 
-pub fn is_alike(frame: &[u8]) -> bool {
-    read_all(usize::from(u8_at(frame, 12)), rest(frame, 13)) == Outcome::at(frame)
+/// A small report, behind the number of bytes that are skipped.
+pub fn is_alike(mut fields: Fields) -> bool {
+    let expected = Outcome::read(&mut fields);
+    let skipped = usize::from(fields.u8());
+    read_all(skipped, fields.rest()) == expected
 }

@@ -2,40 +2,62 @@
 ghost use Rattle.std.specs.Prelude.{◌≡◌, length};
 
 use crate::calls;
-use vectors::floats::float_of;
-use vectors::{next_number, u16_at, u32_at, u64_at};
+use listing::ROW_SIZE;
+use refusals::Refusal;
+use vectors::floats::{Samples, float_of};
+use vectors::{Fields, next_number};
 
 /// How a frame gives a reading.
 #[derive(Clone, Copy, Debug, PartialEq, Eq)]
-pub enum Given {
-    /// The numbers of the rows in eight bytes each, then the patterns of the corner numbers in four.
+pub enum Form {
+    /// Number by number.
     Each,
-    /// A seed for the rule.
+    /// By a seed.
     Seed,
 }
 
+/// A reading that a frame gives.
+#[derive(Clone, Copy, Debug)]
+pub enum Given<'a> {
+    /// The numbers of the rows in eight bytes each, and the patterns of the corner numbers in four.
+    Each {
+        rows: &'a [u8],
+        corners: &'a [u8],
+    },
+    /// By the rule from a seed, but for the number at one place of the rows, and the pattern at one of the corners.
+    Seed {
+        seed: u64,
+        row: (usize, u64),
+        corner: (usize, u32),
+    },
+}
+
 /// The refusals of a reading.
-const REFUSALS: [u64; 7] = [8, 9, 10, 11, 12, 13, 18];
+const REFUSALS: [Refusal; 7] = [
+    Refusal::Corner,
+    Refusal::CornerOutside,
+    Refusal::SampleOutside,
+    Refusal::Flat,
+    Refusal::Unsure,
+    Refusal::Unread,
+    Refusal::Repeated,
+];
 
 fn drawn(seed: u64, k: usize) -> u64 {
     next_number(next_number(next_number(seed.wrapping_add(k as u64))))
 }
 
-/// Field 0, 1, 2 or 3 of row q: about one row in eight is refused, and about every second has no differing modules.
-fn field_by_rule(seed: u64, q: usize, field: usize) -> u64 {
+/// Row q: about one in eight is refused, and about every second has no differing modules.
+fn row_by_rule(seed: u64, q: usize) -> [u64; ROW_SIZE] {
     let x = drawn(seed, q);
     if x % 8 == 0 {
-        if field == 0 {
-            return REFUSALS[(x / 8 % 7) as usize];
-        }
-        return 0;
+        let refusal = REFUSALS[(x / 8 % 7) as usize];
+        return [u64::from(refusal.number()), 0, 0, 0];
     }
-    match field {
-        1 => (q as u64 % 1024 * 389).wrapping_add(seed) % 1024,
-        2 => x / 8 % 4,
-        3 => if x / 32 % 2 == 0 { 0 } else { x / 64 % 64 },
-        _ => 0,
-    }
+    let id = (q as u64 % 1024 * 389).wrapping_add(seed) % 1024;
+    let turn = x / 8 % 4;
+    let differing = if x / 32 % 2 == 0 { 0 } else { x / 64 % 64 };
+    [0, id, turn, differing]
 }
 
 /// The pattern of corner number k: zero in a refused row, else any that refusal 8 lets through.
@@ -47,44 +69,81 @@ fn pattern_by_rule(seed: u64, k: usize) -> u32 {
     ((x >> 32) % 0x4680_0000 + x % 2 * 0x8000_0000) as u32
 }
 
-/// Behind a seed stand a place in the rows and the number there, a place in the corners and the pattern there.
-fn number_at(given: Given, s: &[u8], k: usize) -> u64 {
-    if given == Given::Each {
-        return u64_at(s, k << 3);
+/// Numbers by the rule.
+fn draw_rows(seed: u64, rows: &mut [u64]) {
+    let (rows, _) = rows.as_chunks_mut::<ROW_SIZE>();
+    for (q, row) in rows.iter_mut().enumerate() {
+        *row = row_by_rule(seed, q);
     }
-    if k == u16_at(s, 8) as usize {
-        return u64_at(s, 10);
-    }
-    field_by_rule(u64_at(s, 0), k / 4, k % 4)
 }
 
-fn pattern_at(given: Given, s: &[u8], k: usize) -> u32 {
-    if given == Given::Each {
-        return u32_at(s, k << 2);
-    }
-    if k == u16_at(s, 18) as usize {
-        return u32_at(s, 20);
-    }
-    pattern_by_rule(u64_at(s, 0), k)
-}
-
-/// The rows that the bytes `s` give, at the front, and their corners.
-pub fn rows_of(given: Given, s: &[u8]) -> [u64; 4104]
-    ensures { 4104 ≡ length result }
-{
-    let mut rows = calls::rows_before();
-    for (k, number) in rows.iter_mut().enumerate() {
-        *number = number_at(given, s, k);
-    }
-    rows
-}
-
-pub fn corners_of(given: Given, s: &[u8]) -> [f32; 8208]
-    ensures { 8208 ≡ length result }
-{
-    let mut corners = calls::corners_before();
+/// Corner numbers by the rule.
+fn draw_corners(seed: u64, corners: &mut [f32]) {
     for (k, x) in corners.iter_mut().enumerate() {
-        *x = float_of(pattern_at(given, s, k));
+        *x = float_of(pattern_by_rule(seed, k));
     }
-    corners
+}
+
+impl<'a> Given<'a> {
+    /// What stands in the last fields of a frame, with `a` numbers of the rows.
+    pub fn new(form: Form, mut fields: Fields<'a>, a: usize) -> Self {
+        match form {
+            Form::Each => Given::Each {
+                rows: fields.take(a.saturating_mul(8)),
+                corners: fields.rest(),
+            },
+            Form::Seed => Given::Seed {
+                seed: fields.u64(),
+                row: (usize::from(fields.u16()), fields.u64()),
+                corner: (usize::from(fields.u16()), fields.u32()),
+            },
+        }
+    }
+
+    /// The rows, at the front.
+    pub fn rows(self) -> [u64; 4104]
+        ensures { 4104 ≡ length result }
+    {
+        let mut rows = calls::before::<u64, 4104>();
+        match self {
+            Given::Each { rows: s, .. } => {
+                let mut fields = Fields::new(s);
+                for number in &mut rows {
+                    *number = fields.u64();
+                }
+            }
+            Given::Seed {
+                seed,
+                row: (place, number),
+                ..
+            } => {
+                draw_rows(seed, &mut rows);
+                if let Some(one) = rows.get_mut(place) {
+                    *one = number;
+                }
+            }
+        }
+        rows
+    }
+
+    /// The corners of the rows.
+    pub fn corners(self) -> [f32; 8208]
+        ensures { 8208 ≡ length result }
+    {
+        let mut corners = calls::before::<f32, 8208>();
+        match self {
+            Given::Each { corners: s, .. } => Samples::Each(s).fill(&mut corners),
+            Given::Seed {
+                seed,
+                corner: (place, pattern),
+                ..
+            } => {
+                draw_corners(seed, &mut corners);
+                if let Some(one) = corners.get_mut(place) {
+                    *one = float_of(pattern);
+                }
+            }
+        }
+        corners
+    }
 }

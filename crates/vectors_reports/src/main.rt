@@ -8,16 +8,16 @@ mod damage;
 mod given;
 
 use calls::Outcome;
-use given::Given;
+use given::{Form, Given};
 use std::rt::Files;
 use std::{fs, io};
-use vectors::frames::{Frames, UnknownKind};
-use vectors::{Tally, rest, u8_at, u16_at};
+use vectors::frames::UnknownKind;
+use vectors::{Fields, replay};
 
 #[derive(Clone, Copy, Debug, PartialEq, Eq)]
 enum Kind {
     /// A reading to be written.
-    Writing(Given),
+    Writing(Form),
     /// A report to be read.
     Reading,
     /// A small report that is damaged.
@@ -29,8 +29,8 @@ impl TryFrom<u8> for Kind {
 
     fn try_from(number: u8) -> Result<Self, UnknownKind> {
         match number {
-            1 => Ok(Kind::Writing(Given::Each)),
-            2 => Ok(Kind::Writing(Given::Seed)),
+            1 => Ok(Kind::Writing(Form::Each)),
+            2 => Ok(Kind::Writing(Form::Seed)),
             3 => Ok(Kind::Reading),
             4 => Ok(Kind::Damage),
             _ => Err(UnknownKind(number)),
@@ -38,54 +38,44 @@ impl TryFrom<u8> for Kind {
     }
 }
 
-/// A reading to be written, at the lengths that stand behind what is expected, with as long an output as stands there too.
-fn is_writing_alike(given: Given, frame: &[u8]) -> bool {
-    let s = rest(frame, 18);
-    let a = (u16_at(frame, 12) as usize).min(4104);
-    let b = (u16_at(frame, 14) as usize).min(8208);
-    let behind = if given == Given::Each { 8 * a } else { 0 };
-    let rows = given::rows_of(given, s);
-    let corners = given::corners_of(given, rest(s, behind));
-    let mut report = calls::bytes_before();
-    let room = u16_at(frame, 16) as usize;
-    let got = calls::write_and_back(&rows[..a], &corners[..b], &mut report[..room]);
-    got == Outcome::at(frame)
+/// A reading to be written, behind its lengths and that of the output.
+fn is_writing_alike(form: Form, mut fields: Fields) -> bool {
+    let expected = Outcome::read(&mut fields);
+    let a = usize::from(fields.u16()).min(4104);
+    let b = usize::from(fields.u16()).min(8208);
+    let room = usize::from(fields.u16());
+    let given = Given::new(form, fields, a);
+    let rows = given.rows();
+    let corners = given.corners();
+    let mut report = calls::before::<u8, 65536>();
+    calls::write_and_back(&rows[..a], &corners[..b], &mut report[..room]) == expected
 }
 
 /// A report to be read, behind the lengths of the outputs.
-fn is_reading_alike(frame: &[u8]) -> bool {
-    let mut rows = calls::rows_before();
-    let mut corners = calls::corners_before();
-    let mut own = calls::bytes_before();
-    let a = (u16_at(frame, 12) as usize).min(4104);
-    let b = (u16_at(frame, 14) as usize).min(8208);
-    let got = calls::read_and_back(rest(frame, 16), &mut rows[..a], &mut corners[..b], &mut own);
-    got == Outcome::at(frame)
+fn is_reading_alike(mut fields: Fields) -> bool {
+    let mut rows = calls::before::<u64, 4104>();
+    let mut corners = calls::before::<f32, 8208>();
+    let mut own = calls::before::<u8, 65536>();
+    let expected = Outcome::read(&mut fields);
+    let rows = &mut rows[..usize::from(fields.u16()).min(4104)];
+    let corners = &mut corners[..usize::from(fields.u16()).min(8208)];
+    calls::read_and_back(fields.rest(), rows, corners, &mut own) == expected
 }
 
 /// Whether the entries answer what a frame says.
-fn is_alike(frame: &[u8]) -> bool {
-    match Kind::try_from(u8_at(frame, 0)) {
-        Ok(Kind::Writing(given)) => is_writing_alike(given, frame),
-        Ok(Kind::Reading) => is_reading_alike(frame),
-        Ok(Kind::Damage) => damage::is_alike(frame),
-        Err(_) => false,
-    }
-}
-
-/// Counts the frames of a file.
-fn replay(file: &[u8]) -> Tally {
-    let mut tally = Tally::new();
-    for frame in Frames::new(file) {
-        tally.add(is_alike(frame.bytes), frame.at);
-    }
-    tally
+fn is_alike(frame: &[u8]) -> Result<bool, UnknownKind> {
+    let mut fields = Fields::new(frame);
+    Ok(match Kind::try_from(fields.u8())? {
+        Kind::Writing(form) => is_writing_alike(form, fields),
+        Kind::Reading => is_reading_alike(fields),
+        Kind::Damage => damage::is_alike(fields),
+    })
 }
 
 fn main(rt: HostRuntime) -> io::Result<()> {
     for name in ["writing", "reading"] {
         let file = fs::read(&rt, name)?;
-        println!(rt; "{name} {}", replay(file.as_slice()))?;
+        println!(rt; "{name} {}", replay(file.as_slice(), is_alike))?;
     }
     Ok(())
 }

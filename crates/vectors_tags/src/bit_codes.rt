@@ -1,9 +1,11 @@
 //! Frames of levels, and of a digest of the answers to many levels.
-use crate::words::Word;
+use crate::fields::TagFields;
 use muosleap::detector::bit_code;
+use refusals::Refusal;
+use vectors::Fields;
+use vectors::answers::number_of;
 use vectors::digest::Digest;
 use vectors::frames::UnknownKind;
-use vectors::{rest, u8_at, u32_at, u64_at};
 
 #[derive(Clone, Copy, Debug, PartialEq, Eq)]
 enum Kind {
@@ -23,12 +25,11 @@ impl TryFrom<u8> for Kind {
     }
 }
 
-fn coded(levels: &[u8], band: u8, allowed: u32) -> Word {
-    Word::from(bit_code(levels, band, allowed))
-}
-
-fn are_levels_alike(frame: &[u8]) -> bool {
-    coded(rest(frame, 15), u8_at(frame, 1), u32_at(frame, 2)) == Word::at(rest(frame, 6))
+fn are_levels_alike(mut fields: Fields) -> bool {
+    let band = fields.u8();
+    let allowed = fields.u32();
+    let said = fields.word();
+    bit_code(fields.rest(), band, allowed).map_err(Refusal::number) == said
 }
 
 /// The level `by` above 30 below `middle`, within 0 to 255.
@@ -50,30 +51,30 @@ fn spread(k: u16) -> [u8; 64] {
 }
 
 /// The answer to the levels number `k`: with band 10 and 64 allowed, or with a band and a number allowed that vary.
-fn coded_spread(k: u16, is_varied: bool) -> Word {
+fn code_spread(k: u16, is_varied: bool) -> Result<u64, Refusal> {
     let levels = spread(k);
     if is_varied {
-        coded(&levels, (k % 32) as u8, u32::from(k / 32 % 64))
+        bit_code(&levels, (k % 32) as u8, u32::from(k / 32 % 64))
     } else {
-        coded(&levels, 10, 64)
+        bit_code(&levels, 10, 64)
     }
 }
 
-fn is_digest_alike(frame: &[u8]) -> bool {
-    let is_varied = u8_at(frame, 1) != 0;
+fn is_digest_alike(mut fields: Fields) -> bool {
+    let is_varied = fields.u8() != 0;
     let mut digest = Digest::new();
     for k in 0..=u16::MAX {
-        let answer = coded_spread(k, is_varied);
-        digest.add_u8(answer.refusal);
-        digest.add(&answer.word.to_le_bytes());
+        let answer = code_spread(k, is_varied);
+        digest.add_u8(number_of(answer));
+        digest.add(&answer.unwrap_or(0).to_le_bytes());
     }
-    digest.value() == u64_at(frame, 2)
+    digest.value() == fields.u64()
 }
 
-pub fn is_alike(frame: &[u8]) -> bool {
-    match Kind::try_from(u8_at(frame, 0)) {
-        Ok(Kind::Levels) => are_levels_alike(frame),
-        Ok(Kind::Digest) => is_digest_alike(frame),
-        Err(_) => false,
-    }
+pub fn is_alike(frame: &[u8]) -> Result<bool, UnknownKind> {
+    let mut fields = Fields::new(frame);
+    Ok(match Kind::try_from(fields.u8())? {
+        Kind::Levels => are_levels_alike(fields),
+        Kind::Digest => is_digest_alike(fields),
+    })
 }

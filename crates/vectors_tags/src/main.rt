@@ -5,6 +5,7 @@
 #![tactic(auto)]
 
 mod bit_codes;
+mod fields;
 mod light;
 mod padded;
 mod paintings;
@@ -13,10 +14,11 @@ mod sheets;
 mod words;
 
 use padded::Layout;
+use quads::Lent;
 use std::rt::Files;
 use std::{fs, io};
-use vectors::frames::Frames;
-use vectors::{Tally, u8_at};
+use vectors::frames::{Frames, UnknownKind};
+use vectors::{Fields, Tally};
 
 /// What the frames of a file are about.
 #[derive(Clone, Copy, Debug, PartialEq, Eq)]
@@ -28,25 +30,27 @@ enum Flow {
 }
 
 impl Flow {
-    /// Whether the entry answers what a frame says. The layout is that of pictures.
-    fn is_alike(self, frame: &[u8], lent: &[u8], layout: Layout) -> bool {
+    /// Whether the entry answers what a frame says. A match, since each flow takes other things.
+    fn is_alike(self, frame: &[u8], lent: Lent) -> Result<bool, UnknownKind> {
         match self {
-            Flow::Words => words::is_alike(frame, lent),
+            Flow::Words => words::is_alike(frame, lent.frame),
             Flow::Levels => bit_codes::is_alike(frame),
-            Flow::Quads => quads::is_alike(frame, lent, layout),
-            Flow::Painter => paintings::is_alike(frame, layout),
+            Flow::Quads => quads::is_alike(frame, lent),
+            Flow::Painter => paintings::is_alike(frame, lent.layout),
         }
     }
 
-    /// Counts the frames of a file. The first byte of a frame is its kind; one of kind 0 lends a table or a picture to those after it.
+    /// Counts the frames of a file. The first byte of a frame is its kind; one of kind 0 lends a table or a picture to those after
+    /// it, and one of a kind that is not known is not alike.
     fn replay(self, file: &[u8], layout: Layout) -> Tally {
         let mut tally = Tally::new();
-        let mut lent: &[u8] = &[];
+        let mut lent = Lent { frame: &[], layout };
         for frame in Frames::new(file) {
-            if u8_at(frame.bytes, 0) == 0 {
-                lent = frame.bytes;
+            if Fields::new(frame.bytes).u8() == 0 {
+                lent.frame = frame.bytes;
             } else {
-                tally.add(self.is_alike(frame.bytes, lent, layout), frame.at);
+                let answer = self.is_alike(frame.bytes, lent);
+                tally.add(answer.unwrap_or(false), frame.at);
             }
         }
         tally

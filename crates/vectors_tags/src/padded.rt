@@ -5,7 +5,7 @@ ghost use Rattle.std.specs.Prelude.{◌≤◌};
 use refusals::Frame;
 use std::fmt;
 use vectors::digest::Digest;
-use vectors::{next_number, u8_at, u64_at};
+use vectors::next_number;
 
 /// How a picture is laid out.
 #[derive(Clone, Copy, Debug, PartialEq, Eq)]
@@ -50,7 +50,7 @@ impl Layout {
         let place = (k / pitch)
             .saturating_mul(frame.width)
             .saturating_add(column);
-        let byte = u8_at(pixels, place);
+        let byte = pixels.get(place).copied().unwrap_or(0);
         if column < frame.width {
             return byte;
         }
@@ -82,15 +82,6 @@ impl fmt::Display for Layout {
     }
 }
 
-/// A frame in three numbers of eight bytes.
-pub fn frame_at(s: &[u8]) -> Frame {
-    Frame {
-        width: u64_at(s, 0) as usize,
-        height: u64_at(s, 8) as usize,
-        pitch: u64_at(s, 16) as usize,
-    }
-}
-
 /// How many bytes a plane has, or 65,536 where it has more.
 pub fn bytes_of(frame: Frame) -> usize
     ensures { result ≤ 65536 }
@@ -110,31 +101,30 @@ fn noise_at(k: usize) -> u8 {
     (next_number(next_number(k as u64 ^ 0x9e37_79b9_7f4a_7c15)) >> 56) as u8
 }
 
-/// A plane that is to be painted holds noise.
-pub fn fill(plane: &mut [u8]) {
-    for (k, byte) in plane.iter_mut().enumerate() {
-        *byte = noise_at(k);
+/// A plane that is painted.
+#[derive(Drop)]
+pub struct Plane<'a> {
+    pub frame: Frame,
+    pub bytes: &'a mut [u8],
+}
+
+impl Plane<'_> {
+    /// Before it is painted it holds noise.
+    pub fn fill(&mut self) {
+        for (k, byte) in self.bytes.iter_mut().enumerate() {
+            *byte = noise_at(k);
+        }
     }
-}
 
-/// What was seen of a plane after it was painted: the digest of its pixels, line by line, and whether every other byte is as before.
-#[derive(Clone, Copy, Debug, PartialEq, Eq)]
-pub struct Seen {
-    pub digest: u64,
-    pub is_kept: bool,
-}
-
-impl Seen {
-    /// After a call that answers this number. A refused call paints no pixel: every byte is as before.
-    pub fn after(refusal: u8, plane: &[u8], frame: Frame) -> Self {
-        let width = if refusal == 0 { frame.width } else { 0 };
+    /// What is seen of it after a call that answers this number. A refused call paints no pixel: every byte is as before.
+    pub fn seen(&self, refusal: u8) -> Seen {
+        let Frame { width, pitch, .. } = self.frame;
+        let width = if refusal == 0 { width } else { 0 };
         let mut digest = Digest::new();
         let mut is_kept = true;
-        for (k, byte) in plane.iter().enumerate() {
+        for (k, byte) in self.bytes.iter().enumerate() {
             // A plane without a pitch is not painted.
-            if k.checked_rem(frame.pitch)
-                .is_some_and(|column| column < width)
-            {
+            if k.checked_rem(pitch).is_some_and(|column| column < width) {
                 digest.add_u8(*byte);
             } else {
                 is_kept &= *byte == noise_at(k);
@@ -145,4 +135,11 @@ impl Seen {
             is_kept,
         }
     }
+}
+
+/// What was seen of a plane after it was painted: the digest of its pixels, line by line, and whether every other byte is as before.
+#[derive(Clone, Copy, Debug, PartialEq, Eq)]
+pub struct Seen {
+    pub digest: u64,
+    pub is_kept: bool,
 }

@@ -1,4 +1,5 @@
 //! Frames of words: a turn, searches of the table that was lent, and that table held against a family or tried for likeness.
+use crate::fields::TagFields;
 use muosleap::detector::{best_tag, check_likeness, rotate_bits};
 use refusals::Refusal;
 use search::{Match, SearchResult};
@@ -6,7 +7,7 @@ use tables::Family;
 use vectors::answers::{Answer, Corners, number_of};
 use vectors::digest::Digest;
 use vectors::frames::UnknownKind;
-use vectors::{Generator, rest, u8_at, u16_at, u32_at, u64_at};
+use vectors::{Fields, Generator};
 
 #[derive(Clone, Copy, Debug, PartialEq, Eq)]
 enum Kind {
@@ -36,34 +37,9 @@ impl TryFrom<u8> for Kind {
     }
 }
 
-/// What a call answers that gives a word: a refusal number and 0, or 0 and the word.
-#[derive(Clone, Copy, Debug, PartialEq, Eq)]
-pub struct Word {
-    pub refusal: u8,
-    pub word: u64,
-}
-
-impl Word {
-    /// The answer that nine bytes say.
-    pub fn at(s: &[u8]) -> Self {
-        Word {
-            refusal: u8_at(s, 0),
-            word: u64_at(s, 1),
-        }
-    }
-}
-
-impl From<Result<u64, Refusal>> for Word {
-    fn from(answer: Result<u64, Refusal>) -> Self {
-        Word {
-            refusal: number_of(answer),
-            word: answer.unwrap_or(0),
-        }
-    }
-}
-
-fn is_turn_alike(frame: &[u8]) -> bool {
-    Word::from(rotate_bits(u64_at(frame, 2), u8_at(frame, 1))) == Word::at(rest(frame, 10))
+fn is_turn_alike(mut fields: Fields) -> bool {
+    let edge = fields.u8();
+    rotate_bits(fields.u64(), edge).map_err(Refusal::number) == fields.word()
 }
 
 /// The answer of a search, which has no corners, and how many codes were compared, 0 where there is no count.
@@ -83,14 +59,12 @@ impl Counted {
             differing,
             corners: _,
         } = self.answer;
-        let [refusal, ..] = refusal.to_le_bytes();
-        let [id, high, ..] = id.to_le_bytes();
-        let [turn, ..] = turn.to_le_bytes();
-        let [differing, ..] = differing.to_le_bytes();
-        digest.add(&[refusal, id, high, turn, differing]);
+        digest.add(&refusal.to_le_bytes()[..1]);
+        digest.add(&id.to_le_bytes()[..2]);
+        digest.add(&turn.to_le_bytes()[..1]);
+        digest.add(&differing.to_le_bytes()[..1]);
         if is_counted {
-            let [low, high, ..] = self.compared.to_le_bytes();
-            digest.add(&[low, high]);
+            digest.add(&self.compared.to_le_bytes()[..2]);
         }
     }
 }
@@ -150,16 +124,13 @@ impl Table<'_> {
         }
     }
 
-    fn is_search_alike(&self, frame: &[u8]) -> bool {
-        self.search(u64_at(frame, 1)).answer == Answer::at(rest(frame, 9))
+    fn is_search_alike(&self, mut fields: Fields) -> bool {
+        self.search(fields.u64()).answer == fields.answer()
     }
 
-    fn is_counted_search_alike(&self, frame: &[u8]) -> bool {
-        let said = Counted {
-            answer: Answer::at(rest(frame, 11)),
-            compared: u64::from(u16_at(frame, 9)),
-        };
-        self.search(u64_at(frame, 1)) == said
+    fn is_counted_search_alike(&self, mut fields: Fields) -> bool {
+        let got = self.search(fields.u64());
+        got.compared == u64::from(fields.u16()) && got.answer == fields.answer()
     }
 
     /// The code at a position, 0 where there is none, turned 0 to 3 times.
@@ -191,66 +162,67 @@ impl Table<'_> {
         }
     }
 
-    fn is_digest_alike(&self, frame: &[u8], is_counted: bool) -> bool {
-        let Ok(rule) = Rule::try_from(u8_at(frame, 1)) else {
-            return false;
-        };
-        let mut generator = Generator(u64_at(frame, 2));
+    fn is_digest_alike(&self, mut fields: Fields, is_counted: bool) -> Result<bool, UnknownKind> {
+        let rule = Rule::try_from(fields.u8())?;
+        let mut generator = Generator(fields.u64());
         let mut digest = Digest::new();
-        for k in 0..u32_at(frame, 10) {
+        for k in 0..fields.u32() {
             let bits = self.word(rule, u64::from(k), &mut generator);
             self.search(bits).add_to(&mut digest, is_counted);
         }
-        digest.value() == u64_at(frame, 14)
+        Ok(digest.value() == fields.u64())
     }
 
     /// Whether the family of a number has the table's edge, threshold and codes, and the frame's border.
-    fn is_family_alike(&self, frame: &[u8]) -> bool {
-        let Ok(known) = tag_families::table(u8_at(frame, 1)) else {
+    fn is_family_alike(&self, mut fields: Fields) -> bool {
+        let Ok(known) = tag_families::table(fields.u8()) else {
             return false;
         };
         known.family.edge == self.edge
-            && known.family.border == u8_at(frame, 2)
+            && known.family.border == fields.u8()
             && known.family.hamming_distance == self.hamming_distance
             && known.codes == self.codes
     }
 
     /// A frame's threshold and border with the table's edge and codes.
-    fn is_likeness_alike(&self, frame: &[u8]) -> bool {
+    fn is_likeness_alike(&self, mut fields: Fields) -> bool {
         let family = Family {
             edge: self.edge,
-            border: u8_at(frame, 2),
-            hamming_distance: u8_at(frame, 1),
+            hamming_distance: fields.u8(),
+            border: fields.u8(),
         };
-        number_of(check_likeness(family, self.codes)) == u8_at(frame, 3)
+        number_of(check_likeness(family, self.codes)) == fields.u8()
     }
 }
 
-/// The codes of eight bytes in `s`, as many as `codes` has room for.
-pub fn read_codes(s: &[u8], codes: &mut [u64]) {
-    for (code, bytes) in codes.iter_mut().zip(s.chunks(8)) {
-        *code = u64_at(bytes, 0);
+/// The codes of eight bytes in `s`, as many as there is room for.
+pub fn codes_in<'a>(s: &[u8], room: &'a mut [u64]) -> &'a [u64] {
+    let count = (s.len() / 8).min(room.len());
+    let codes = &mut room[..count];
+    let mut fields = Fields::new(s);
+    for code in codes.iter_mut() {
+        *code = fields.u64();
     }
+    codes
 }
 
-pub fn is_alike(frame: &[u8], lent: &[u8]) -> bool {
-    let mut codes = [0u64; 1025];
-    let s = rest(lent, 3);
-    let count = (s.len() / 8).min(1025);
-    read_codes(s, &mut codes);
+pub fn is_alike(frame: &[u8], lent: &[u8]) -> Result<bool, UnknownKind> {
+    let mut room = [0u64; 1025];
+    let mut lent = Fields::new(lent);
+    lent.u8();
     let table = Table {
-        edge: u8_at(lent, 1),
-        hamming_distance: u8_at(lent, 2),
-        codes: &codes[..count],
+        edge: lent.u8(),
+        hamming_distance: lent.u8(),
+        codes: codes_in(lent.rest(), &mut room),
     };
-    match Kind::try_from(u8_at(frame, 0)) {
-        Ok(Kind::Search) => table.is_search_alike(frame),
-        Ok(Kind::Digest) => table.is_digest_alike(frame, false),
-        Ok(Kind::Turn) => is_turn_alike(frame),
-        Ok(Kind::Family) => table.is_family_alike(frame),
-        Ok(Kind::Likeness) => table.is_likeness_alike(frame),
-        Ok(Kind::CountedSearch) => table.is_counted_search_alike(frame),
-        Ok(Kind::CountedDigest) => table.is_digest_alike(frame, true),
-        Err(_) => false,
+    let mut fields = Fields::new(frame);
+    match Kind::try_from(fields.u8())? {
+        Kind::Search => Ok(table.is_search_alike(fields)),
+        Kind::Digest => table.is_digest_alike(fields, false),
+        Kind::Turn => Ok(is_turn_alike(fields)),
+        Kind::Family => Ok(table.is_family_alike(fields)),
+        Kind::Likeness => Ok(table.is_likeness_alike(fields)),
+        Kind::CountedSearch => Ok(table.is_counted_search_alike(fields)),
+        Kind::CountedDigest => table.is_digest_alike(fields, true),
     }
 }

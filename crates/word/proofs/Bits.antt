@@ -1,16 +1,14 @@
--- Words and their bits. Assumes nothing.
+-- Words and their bits. That a bit is below 2, that words with the same bits are equal, and that a word has no bit above its places, are
+-- the library's `bit_at-lt`, `same_from_bits_below` and `bit_at_above`. Assumes nothing.
 use mathlib.Core.Path.{◌≡◌, refl, sym, ap, ap₂, ◌∙◌, subst}
 use mathlib.Core.Logic.{◌⊎◌, inl, inr}
-use Prim.Native.Nat.{ℕ, zero, suc, ◌+◌, ◌-◌, ◌*◌, ◌/◌, ◌%◌, ◌^◌, ◌≤◌, ◌<◌}
-use native.Mathlib.Nat.{le_refl, le_trans, lt_of_lt_of_le, div-eq_of_lt, zero-lt-suc, not-suc-le-zero, le_of_suc-le-suc, eq-or-lt_of_le, mod-lt, mod-eq_of_lt, mul_comm, pow-suc, sub-add_cancel, mod-one}
+use Prim.Native.Nat.{ℕ, zero, suc, ◌+◌, ◌-◌, ◌*◌, ◌/◌, ◌%◌, ◌^◌, ◌<◌}
+use native.Mathlib.Nat.{le_refl, le_trans, zero-lt-suc, not-suc-le-zero, le_of_suc-le-suc, eq-or-lt_of_le, mod-eq_of_lt, mul_comm, pow-suc, sub-add_cancel, mod-one}
 use native.Mathlib.Omega.{arith}
 use native.Mathlib.Numerals.{one-add, add-one}
 use lib.Arith.{digits_lt}
-use lib.Pow.{high, low, field, pow_mono, split, shr-shr, mod-mod-pow, mod-pow-add}
+use lib.Pow.{high, low, field, split, shr-shr, mod-mod-pow, mod-pow-add}
 use Rattle.word.specs.Word.{bit, word}
-
-pub bit-lt : (w k : ℕ) → bit w k < 2
-bit-lt w k = mod-lt (w / 2 ^ k) (zero-lt-suc 1)
 
 pub word-lt : (n : ℕ) (f : ℕ → ℕ) → ((k : ℕ) → f k < 2) → word n f < 2 ^ n
 unfolding word
@@ -56,14 +54,6 @@ word_ext zero f g h = refl
 word_ext (suc n) f g h =
     ap₂ (λ (x y : ℕ). x * 2 ^ n + y) (h n (le_refl (suc n))) (word_ext n f g (λ k l. h k (le_trans l (omega arith))))
 
-pub same_bits : (n a b : ℕ) → a < 2 ^ n → b < 2 ^ n → ((k : ℕ) → k < n → bit a k ≡ bit b k) → a ≡ b
-same_bits n a b ha hb h =
-    sym (mod-eq_of_lt ha) ∙ sym (word-mod n a) ∙ word_ext n (bit a) (bit b) h ∙ word-mod n b ∙ mod-eq_of_lt hb
-
 -- a word without its m low places, from the word without one place more
 pub word_lower : (w m : ℕ) → w / 2 ^ (m + 1) * 2 + bit w m ≡ w / 2 ^ m
 word_lower w m = ap (λ (x : ℕ). x * 2 + bit w m) (sym (shr-shr w m 1)) ∙ split (w / 2 ^ m) 1
-
--- above its places a word has no bit
-pub bit_above : (n w k : ℕ) → w < 2 ^ n → n ≤ k → bit w k ≡ 0
-bit_above n w k h l = ap (λ (x : ℕ). x % 2) (div-eq_of_lt (lt_of_lt_of_le h (pow_mono l)))

@@ -10,10 +10,11 @@ use lib.Arith.{digits_mod}
 use lib.Dec.{leb}
 use lib.Bits.{bit_xor, xor_shr, xor_step, xor_lt, differ}
 use lib.Count.{ones, ones_cat}
+use Rattle.std.proofs.lemmas.Nat.Bits.{bit_at-lt, bit_at_above}
 use Rattle.lists.specs.Sum.{sum}
 use Rattle.lists.proofs.Sum.{sum_ext, sum-le, sum_plus, sum_most, sum-add, sum_none}
 use Rattle.word.specs.Word.{bit, word, source, turn, turns, differing_in, differing}
-use Rattle.word.proofs.Bits.{bit-lt, bit_above, word-lt, word-mod}
+use Rattle.word.proofs.Bits.{word-lt, word-mod}
 use Rattle.word.proofs.Turn.{bit-turn, sum-turn, turns-lt, turns-add, turns_four, turns_past_four}
 
 one_bit : (x : ℕ) → x < 2 → ones x ≡ x
@@ -28,7 +29,7 @@ ones-word zero f h = one_bit 0 (zero-lt-suc 1)
 ones-word (suc n) f h = ones_cat n (f n) (word n f) (word-lt n f h) ∙ ap₂ (λ (x y : ℕ). x + y) (one_bit (f n) (h n)) (ones-word n f h)
 
 ones-sum : (n w : ℕ) → w < 2 ^ n → ones w ≡ sum n (bit w)
-ones-sum n w h = ap ones (sym (mod-eq_of_lt h) ∙ sym (word-mod n w)) ∙ ones-word n (bit w) (bit-lt w)
+ones-sum n w h = ap ones (sym (mod-eq_of_lt h) ∙ sym (word-mod n w)) ∙ ones-word n (bit w) (bit_at-lt w)
 
 differ-lt : (x y : ℕ) → x < 2 → y < 2 → differ x y < 2
 differ-lt zero y hx hy = hy
@@ -38,7 +39,7 @@ differ-lt (suc x) (suc y) hx hy = differ-lt x y (omega arith) (omega arith)
 xor_bit : (a b k : ℕ) → bit (bit_xor a b) k ≡ differ (bit a k) (bit b k)
 xor_bit a b k =
     ap (λ (x : ℕ). x % 2) (xor_shr a b k ∙ xor_step (a / 2 ^ k) (b / 2 ^ k))
-    ∙ digits_mod (bit_xor (a / 2 ^ k / 2) (b / 2 ^ k / 2)) (differ-lt (bit a k) (bit b k) (bit-lt a k) (bit-lt b k))
+    ∙ digits_mod (bit_xor (a / 2 ^ k / 2) (b / 2 ^ k / 2)) (differ-lt (bit a k) (bit b k) (bit_at-lt a k) (bit_at-lt b k))
 
 -- what `u64::count_ones(a ^ b)` counts
 pub ones-differing : (n a b : ℕ) → a < 2 ^ n → b < 2 ^ n → ones (bit_xor a b) ≡ differing_in n a b
@@ -73,7 +74,7 @@ pub differing_low : (n m a b : ℕ) → n ≤ m → a < 2 ^ n → b < 2 ^ n → 
 unfolding differing_in
 differing_low n m a b l ha hb =
     let e : n + (m - n) ≡ m = omega arith in
-    let none = sum_ext (m - n) (λ j. differ (bit a (n + j)) (bit b (n + j))) (λ j. 0) (λ j _. ap₂ differ (bit_above n a (n + j) ha (omega arith)) (bit_above n b (n + j) hb (omega arith))) ∙ sum_none (m - n) in
+    let none = sum_ext (m - n) (λ j. differ (bit a (n + j)) (bit b (n + j))) (λ j. 0) (λ j _. ap₂ differ (bit_at_above a n (n + j) ha (omega arith)) (bit_at_above b n (n + j) hb (omega arith))) ∙ sum_none (m - n) in
     ap (λ (x : ℕ). sum x (λ k. differ (bit a k) (bit b k))) (sym e)
     ∙ sum-add n (m - n) (λ k. differ (bit a k) (bit b k))
     ∙ omega (arith, none)
@@ -115,7 +116,7 @@ differing_comm n a b = sum_ext n (λ k. differ (bit a k) (bit b k)) (λ k. diffe
 pub differing-le : (n a b : ℕ) → differing_in n a b ≤ n
 unfolding differing_in
 differing-le n a b =
-    omega (arith, sum_most n 1 (λ k. differ (bit a k) (bit b k)) (λ k l. le_of_suc-le-suc (differ-lt (bit a k) (bit b k) (bit-lt a k) (bit-lt b k))))
+    omega (arith, sum_most n 1 (λ k. differ (bit a k) (bit b k)) (λ k l. le_of_suc-le-suc (differ-lt (bit a k) (bit b k) (bit_at-lt a k) (bit_at-lt b k))))
 
 -- ---- words of a square with an edge up to 8, in any turns
 

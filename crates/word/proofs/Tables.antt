@@ -12,7 +12,7 @@ use lib.Dec.{leb, ltb}
 use lib.ListN.{length, get_or}
 use Rattle.lists.specs.Tab.{all}
 use Rattle.lists.proofs.All.{all_of}
-use Rattle.lists.proofs.Bools.{and_not_left, and_not_right}
+use Rattle.std.proofs.lemmas.Bool.{and_left, and_right}
 use Rattle.lists.proofs.Grid.{square_le}
 use Rattle.lists.proofs.Tab.{length-tabulate, get_or-tabulate}
 use Rattle.word.specs.Word.{bit, word, source, turn}
@@ -24,8 +24,8 @@ use Rattle.word.proofs.Turn.{source-lt}
 -- an edge that is none of the three has no table
 pub no_table : (e : ℕ) → (e ≡ 4 → ⊥) → (e ≡ 5 → ⊥) → (e ≡ 6 → ⊥) → has_table e ≡ false
 no_table e four five six = elim (dec_lt e 4) [
-  | yes l ↦ and_not_left (leb 4 e) (leb e 6) (lt-leb 4 e l)
-  | no g ↦ and_not_right (leb 4 e) (leb e 6) (lt-leb e 6 (omega (arith, four, five, six)))
+  | yes l ↦ and_left (leb 4 e) (leb e 6) (lt-leb 4 e l)
+  | no g ↦ and_right (leb 4 e) (leb e 6) (lt-leb e 6 (omega (arith, four, five, six)))
 ]
 
 module _ (e : ℕ) (table : List ℕ) (right : table ≡ sources e) where

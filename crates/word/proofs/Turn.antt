@@ -8,7 +8,8 @@ use Rattle.lists.specs.Sum.{sum}
 use Rattle.lists.proofs.Grid.{square_row, square_column}
 use Rattle.lists.proofs.Sum.{sum_ext, sum_rows, sum_swap, sum_back}
 use Rattle.word.specs.Word.{bit, source, turn, turns}
-use Rattle.word.proofs.Bits.{bit-lt, bit-mod, bit-word, word-lt, word_ext, same_bits}
+use Rattle.std.proofs.lemmas.Nat.Bits.{bit_at-lt, same_from_bits_below}
+use Rattle.word.proofs.Bits.{bit-mod, bit-word, word-lt, word_ext}
 
 module _ (e : ℕ) where
   pub source_at : (i j : ℕ) → j < e → source e (i * e + j) ≡ j * e + (e - 1 - i)
@@ -24,11 +25,11 @@ module _ (e : ℕ) where
 
   pub turn-lt : (w : ℕ) → turn e w < 2 ^ (e * e)
   unfolding turn
-  turn-lt w = word-lt (e * e) (λ k. bit w (source e k)) (λ k. bit-lt w (source e k))
+  turn-lt w = word-lt (e * e) (λ k. bit w (source e k)) (λ k. bit_at-lt w (source e k))
 
   pub bit-turn : (w k : ℕ) → k < e * e → bit (turn e w) k ≡ bit w (source e k)
   unfolding turn
-  bit-turn w k l = bit-word (e * e) (λ j. bit w (source e j)) (λ j. bit-lt w (source e j)) k l
+  bit-turn w k l = bit-word (e * e) (λ j. bit w (source e j)) (λ j. bit_at-lt w (source e j)) k l
 
   pub source_four : (k : ℕ) → k < e * e → source e (source e (source e (source e k))) ≡ k
   source_four = by_square (λ (k : ℕ). source e (source e (source e (source e k))) ≡ k) (λ i j hi hj.
@@ -45,7 +46,7 @@ module _ (e : ℕ) where
 
   pub turn_four : (w : ℕ) → w < 2 ^ (e * e) → turn e (turn e (turn e (turn e w))) ≡ w
   turn_four w h =
-      same_bits (e * e) (turn e (turn e (turn e (turn e w)))) w (turn-lt (turn e (turn e (turn e w)))) h (λ k l.
+      same_from_bits_below (e * e) (turn e (turn e (turn e (turn e w)))) w (turn-lt (turn e (turn e (turn e w)))) h (λ k l.
       let s = source e in
       let l1 = source-lt k l in
       let l2 = source-lt (source e k) l1 in

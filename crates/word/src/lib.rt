@@ -1,4 +1,5 @@
-// A word as a square of bits: its quarter turn, and the number of bits in which two words differ.
+//! A word as a square of bits: its quarter turn, and the number of bits in which two words differ. An edge is a plain number here and above,
+//! as tables and C lend it; a checked `Square` or `Table` has a border too, which a word has not.
 #![tactic(auto)]
 
 mod sources;
@@ -11,7 +12,7 @@ ghost use Rattle.word.specs.Gathered.{gathered};
 
 use sources::{EDGE_4, EDGE_5, EDGE_6};
 
-// The bit of `bits` at place `k`.
+/// The bit of `bits` at place `k`.
 fn bit_at(bits: u64, k: u64) -> u64
     requires { k < 64 }
     ensures { result ≡ bit bits k }
@@ -19,7 +20,7 @@ fn bit_at(bits: u64, k: u64) -> u64
     (bits >> k) & 1
 }
 
-// The word `b` of `k` places, with the bit `x` at one place more.
+/// The word `b` of `k` places, with the bit `x` at one place more.
 fn with_bit(b: u64, k: u64, x: u64) -> u64
     requires { (k < 64) × (b < 2 ^ k) × (x < 2) }
     ensures { result ≡ x * 2 ^ k + b }
@@ -27,7 +28,7 @@ fn with_bit(b: u64, k: u64, x: u64) -> u64
     b | (x << k)
 }
 
-// The place whose bit a turn puts into row `i` and column `j`, by the formula.
+/// The place whose bit a turn puts into row `i` and column `j`, by the formula.
 pub fn source_place(edge: u64, i: u64, j: u64) -> u64
     requires { (edge ≤ 8) × (i < edge) × (j < edge) }
     ensures { (result ≡ source edge (i * edge + j)) × (result < 64) }
@@ -35,7 +36,7 @@ pub fn source_place(edge: u64, i: u64, j: u64) -> u64
     j * edge + (edge - 1 - i)
 }
 
-// The word that has at each place the bit of `bits` from the place that the table names there.
+/// The word that has at each place the bit of `bits` from the place that the table names there.
 fn by_table(bits: u64, table: &[u8]) -> u64
     requires { (length table.now ≤ 64) × (all (λ place. ltb place 64) table.now ≡ true) }
     ensures { result ≡ gathered table.now bits }
@@ -47,8 +48,8 @@ fn by_table(bits: u64, table: &[u8]) -> u64
     b
 }
 
-// The square turned once by the formula, which is for the edges that have no table: from the highest place down, so that one shift by
-// a changing number is done for each bit and not two.
+/// The square turned once by the formula, which is for the edges that have no table: from the highest place down, so that one shift by
+/// a changing number is done for each bit and not two.
 fn by_formula(bits: u64, edge: u8) -> u64
     requires { (edge ≤ 8) × (has_table edge ≡ false) }
     ensures { result ≡ turn edge bits }
@@ -63,7 +64,7 @@ fn by_formula(bits: u64, edge: u8) -> u64
     b
 }
 
-// The square turned once. Each table has a call of its own: there the compiler knows all of its numbers, and the loop becomes a run of moves.
+/// The square turned once. Each table has a call of its own: there the compiler knows all of its numbers, and the loop becomes a run of moves.
 pub fn rotate_bits(bits: u64, edge: u8) -> u64
     requires { (0 < edge) × (edge ≤ 8) }
     ensures { result ≡ turn edge bits }
@@ -76,7 +77,7 @@ pub fn rotate_bits(bits: u64, edge: u8) -> u64
     }
 }
 
-// The number of bits in which two words differ.
+/// The number of bits in which two words differ.
 pub fn differing_bits(a: u64, b: u64) -> u32
     ensures { result ≡ differing a b }
 {

@@ -1,5 +1,5 @@
-// Where the bits of a turned square come from: for each place from 0 on the place that its bit had before. The program `turning`
-// prints these tables from the formula.
+//! Where the bits of a turned square come from: for each place from 0 on the place that its bit had before. The program `turning`
+//! prints these tables from the formula.
 pub const EDGE_4: [u8; 16] = [3, 7, 11, 15, 2, 6, 10, 14, 1, 5, 9, 13, 0, 4, 8, 12];
 
 pub const EDGE_5: [u8; 25] = [

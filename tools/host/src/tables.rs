@@ -3,9 +3,8 @@
 /// The code lists, from the file that the proved code is compiled from.
 #[rustfmt::skip]
 #[allow(missing_docs)]
-mod codes {
-    include!("../../../crates/tag_families/src/codes.rt");
-}
+#[path = "../../../crates/tag_families/src/codes.rt"]
+mod codes;
 
 /// A table of codes with what describes its tags: a table of the host's own, or a family's.
 ///

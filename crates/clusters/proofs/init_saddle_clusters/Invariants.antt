@@ -5,7 +5,8 @@ use Rattle.clusters.proofs.init_saddle_clusters.Given as goal
 
 abbrev pub invariant-loop-row : goal.invariant-loop-row
 invariant-loop-row l = record {
-  found : ◌≡◌ {A = Found} (record { plane = l.h_mat; rows = l.rows; total = l.total }) (found_before l.threshold l.shape.width l.shape.height l.initial.h_mat l.initial.rows (l.row * l.shape.width));
-  few : l.total ≤ l.row * l.shape.width;
+  found : ◌≡◌ {A = Found} (record { plane = l.h_mat; rows = l.found.slice.now; total = l.found.total }) (found_before l.threshold l.shape.width l.shape.height l.initial.h_mat l.initial.found.slice.now (l.row * l.shape.width));
+  few : l.found.total ≤ l.row * l.shape.width;
   inside : l.row ≤ l.shape.height;
+  same_loan : l.found.slice.ghost_name ≡ l.initial.found.slice.ghost_name;
 }

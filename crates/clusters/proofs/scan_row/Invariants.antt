@@ -6,10 +6,15 @@ use Rattle.clusters.specs.Walk.{Onward}
 use Rattle.clusters.proofs.scan_row.Given as goal
 
 abbrev pub invariant-loop-i : goal.invariant-loop-i
-invariant-loop-i l =
-    Onward l.threshold l.shape l.start (record { plane = l.initial.mat; rows = l.initial.rows; total = l.initial.total }) l.from (record { plane = l.mat; rows = l.rows; total = l.total })
-    × (l.start < l.from) × (l.from ≤ l.start + l.shape.width) × (l.total ≤ l.from)
-    × (length l.mat ≡ length l.initial.mat) × (length l.worklist ≡ length l.initial.worklist) × (length l.rows ≡ length l.initial.rows)
+invariant-loop-i l = record {
+  onward : Onward l.threshold l.shape l.start (record { plane = l.initial.mat; rows = l.initial.rows.slice.now; total = l.initial.rows.total }) l.from (record { plane = l.mat; rows = l.rows.slice.now; total = l.rows.total });
+  begun : l.start < l.from;
+  in_row : l.from ≤ l.start + l.shape.width;
+  few : l.rows.total ≤ l.from;
+  long : length l.mat ≡ length l.initial.mat;
+  room : length l.worklist ≡ length l.initial.worklist;
+  same_loan : l.rows.slice.ghost_name ≡ l.initial.rows.slice.ghost_name;
+}
 
 abbrev pub decreases-loop-i : goal.decreases-loop-i
 decreases-loop-i l = l.end - l.from

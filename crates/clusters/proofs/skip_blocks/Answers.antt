@@ -1,28 +1,35 @@
--- The loop keeps: no sample was passed that is below the threshold. A block with none lets it go on by 32.
-use Rattle.std.proofs.Common.{sym, ◌∙◌, ◌+◌, arith}
-use Rattle.clusters.proofs.Passed.{Passed-none, Passed-block, Passed-end}
-use Rattle.clusters.proofs.skip_blocks.Goals.{else-loop-i-test, then-loop-i-test+else-end-i-lt32+else-block_below+else-end-i-gt32}
+-- The blocks before the one that is found hold no sample below the threshold.
+use Rattle.std.proofs.Common.{◌≡◌, sym, subst, ◌+◌, ◌-◌, ◌*◌, ◌/◌, ◌≤◌, ℕ, true, false, rules, tests, arith}
+use Rattle.std.proofs.lemmas.Iterator.{first_from_Range}
+use Rattle.std.specs.Option.{unwrap_or}
+use Rattle.clusters.specs.Walk.{NoneBelow}
+use Rattle.clusters.proofs.Search.{block, blocks_passed}
+use Rattle.clusters.proofs.skip_blocks.Goals.{After-unwrap_or}
 use Rattle.clusters.proofs.skip_blocks.Goals as goal
 
-pub loop-i-init : goal.loop-i-init
-loop-i-init c = Passed-none _ _ _ _
+module _ (c : After-unwrap_or) where
+  abbrev blocks : ℕ
+  blocks = c.saturating_sub-blocks.result / 32
 
-pub returns-then-end-i-lt32 : goal.returns-then-end-i-lt32
-returns-then-end-i-lt32 c = c.loop-i.invariant
+  abbrev n : ℕ
+  n = unwrap_or c.find-passed.result blocks
 
-pub loop-i-preserved : goal.loop-i-preserved
-loop-i-preserved c =
-    let l = c.loop-i in
-    Passed-block _ _ _ _ l.i l.invariant 32 (omega (arith, c.if-end-i-lt32.false)) (sym c.block_below.ensures ∙ c.if-block_below.false)
+  passed : (n ≤ blocks) × NoneBelow c.args.threshold c.args.mat.now c.args.from (c.args.from + 32 * n)
+  passed =
+      let holds = block c.args.threshold c.args.mat.now c.args.from in
+      blocks_passed c.args.threshold c.args.mat.now c.args.from blocks c.find-passed.result
+      (first_from_Range (record { start = 0; end = blocks }) _ _ c.find-passed.result (λ k. holds k ≡ true) (λ k. holds k ≡ false) c.find-passed.ensures.ran
+      (λ x q k. search (rules, tests))
+      (λ x q k. search (rules, tests)))
+
+  inside : c.args.from + 32 * c.unwrap_or.result ≤ c.args.from + (c.args.end - c.args.from)
+  inside = omega (arith, c.unwrap_or.ensures, c.saturating_sub-blocks.ensures, passed.0)
+
+pub overflow_mul-result : goal.overflow_mul-result
+overflow_mul-result c = omega (arith, inside c)
+
+pub overflow_add-result : goal.overflow_add-result
+overflow_add-result c = omega (arith, inside c)
 
 pub returns : goal.returns
-returns c =
-    let l = c.loop-i in
-    rw c.max.ensures
-    (elim c.loop-i-test.branch [
-      | else-loop-i-test w ↦ Passed-end _ _ _ _ l.i l.invariant (omega (arith, w.loop-i-test.false))
-      | then-loop-i-test+else-end-i-lt32+else-block_below+else-end-i-gt32 w ↦
-          Passed-end _ _ _ _ (l.i + 32)
-          (Passed-block _ _ _ _ l.i l.invariant 32 (omega (arith, w.if-end-i-lt32.false)) (sym w.block_below.ensures ∙ w.if-block_below.false))
-          (omega arith)
-    ])
+returns c = (omega arith, subst (λ (m : ℕ). NoneBelow c.args.threshold c.args.mat.now c.args.from (c.args.from + 32 * m)) (sym c.unwrap_or.ensures) (passed c).1)

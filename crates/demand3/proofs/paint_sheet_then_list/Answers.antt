@@ -5,13 +5,13 @@ use native.Mathlib.Omega.{arith}
 use lib.ListN.{length}
 use lib.Seq.{length-take-le}
 use Rattle.std.specs.Prelude.{Result}
+use Rattle.refusals.specs.Numbers.{done}
 use Rattle.refusals.specs.declared.refusal.Refusal.{Refusal}
 use Rattle.points.specs.Numbers.{quad_size}
 use Rattle.grid.specs.Quads.{tag_count}
 use Rattle.grid.specs.Sheetable.{Sheetable}
 use Rattle.grid.proofs.Sheetable.{room}
-use Rattle.muosleap_paint.specs.PaintSheet.{SheetPainting, done}
-use Rattle.muosleap_paint.proofs.PaintSheet.{sheet_accepted}
+use Rattle.muosleap_paint.proofs.PaintSheet.{painted}
 use Rattle.demand3.specs.Sheet.{list_sheet}
 use Rattle.demand3.proofs.Sheet.{few, sheet_then_listed}
 use Rattle.demand3.proofs.paint_sheet_then_list.Goals.{In_ok-paint_sheet}
@@ -19,10 +19,7 @@ use Rattle.demand3.proofs.paint_sheet_then_list.Goals as goal
 
 -- the sheet is painted
 sheets : (t : In_ok-paint_sheet) → let a = t.args in Sheetable (length a.plane.now) a.frame a.family a.codes.now a.grid a.print (length a.quads.now)
-sheets t =
-    let a = t.args in
-    sheet_accepted a.plane.now a.frame a.family a.codes.now a.grid a.print a.quads.now
-    (sym (ap (λ (x : SheetPainting). x.answer) t.paint_sheet.ensures) ∙ ap done t.in_ok-paint_sheet.was)
+sheets t = painted t.args.plane.now t.args.quads.now t.paint_sheet.ensures t.in_ok-paint_sheet.was
 
 pub overflow_mul-list : goal.overflow_mul-list
 overflow_mul-list c = omega (arith, few (sheets (goal.at.overflow_mul-list c).In_ok-paint_sheet))

@@ -2,23 +2,19 @@
 use mathlib.Core.Path.{sym, ap, ◌∙◌}
 use native.Mathlib.Omega.{arith}
 use Rattle.std.specs.Prelude.{Result}
+use Rattle.refusals.specs.Numbers.{done}
 use Rattle.refusals.specs.declared.refusal.Refusal.{Refusal}
 use Rattle.points.specs.Turned.{turned_left}
 use Rattle.grid.proofs.Sheetable.{room}
 use Rattle.muosleap.specs.Quad.{decode_quad}
-use Rattle.muosleap_paint.specs.PaintSheet.{SheetPainting, done}
-use Rattle.muosleap_paint.proofs.PaintSheet.{sheet_accepted}
+use Rattle.muosleap_paint.proofs.PaintSheet.{painted}
 use Rattle.demand3.specs.Sheet.{read_sheet}
 use Rattle.demand3.proofs.Sheet.{sheet_then_read}
 use Rattle.demand3.proofs.paint_sheet_then_read.Goals as goal
 
 -- a painted sheet has a quad for each position
-pub quad_at-requires : goal.quad_at-requires
-quad_at-requires c =
-    let a = c.args in
-    let took = sym (ap (λ (x : SheetPainting). x.answer) c.paint_sheet.ensures) ∙ ap done c.in-Ok.is in
-    let wide = room (sheet_accepted a.plane.now a.frame a.family a.codes.now a.grid a.print a.quads.now took) in
-    omega (arith, c.requires, wide, c.paint_sheet.auto)
+pub quad_at-quad-requires : goal.quad_at-quad-requires
+quad_at-quad-requires c = omega (arith, c.requires, room (painted c.args.plane.now c.args.quads.now c.paint_sheet.ensures c.in-Ok.is), c.paint_sheet.auto)
 
 pub returns-in-Ok : goal.returns-in-Ok
 returns-in-Ok c =
@@ -27,6 +23,6 @@ returns-in-Ok c =
     let written = c.paint_sheet.new.quads in
     sheet_then_read a.plane.now a.frame a.family a.codes.now a.grid a.print a.quads.now a.position a.start
     (done c.paint_sheet.result) left written _ c.requires c.paint_sheet.ensures
-    (c.try_decode_quad.ensures
-    ∙ ap (decode_quad left a.frame a.family a.codes.now) (c.rotate_left-quad.ensures ∙ ap (turned_left a.start) c.quad_at.ensures)
+    (c.read_start.ensures
+    ∙ ap (decode_quad left a.frame a.family a.codes.now) (ap (turned_left a.start) c.quad_at-quad.ensures)
     ∙ sym (ap (λ (x : Result (Unit {0}) Refusal). read_sheet a.frame a.family a.codes.now a.position a.start left written (done x)) c.in-Ok.is))

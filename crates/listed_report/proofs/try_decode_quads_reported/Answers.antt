@@ -1,12 +1,13 @@
 -- The list reader's answer, taken apart; then `list_reported`. Assumes nothing.
-use mathlib.Core.Path.{◌≡◌, sym, ap, ◌∙◌}
+use mathlib.Core.Path.{sym, ap, ◌∙◌}
 use Prim.Native.Nat.{ℕ, ◌*◌, ◌≤◌}
 use native.Mathlib.Omega.{arith}
 use lib.ListN.{length}
 use lib.Seq.{length-take-le}
-use Rattle.std.specs.Prelude.{Result, Ok, Err, IsErrAnd}
-use Rattle.refusals.specs.Outcome.{Outcome, refused}
-use Rattle.refusals.specs.Numbers.{number_of, outcome}
+use Rattle.std.specs.Prelude.{Result}
+use Rattle.refusals.specs.Outcome.{Outcome, accepted}
+use Rattle.refusals.specs.Numbers.{outcome}
+use Rattle.refusals.proofs.Passed.{passed_on}
 use Rattle.refusals.specs.declared.refusal.Refusal.{Refusal}
 use Rattle.points.specs.Numbers.{quad_size}
 use Rattle.listing.specs.Listing.{row_size, most_quads, Listing, listing_of}
@@ -41,17 +42,12 @@ slice_bounds-write_report-end-2 c = sym (length-take-le _ c.try_decode_quads.new
 pub slice_bounds-write_report-end-4 : goal.slice_bounds-write_report-end-4
 slice_bounds-write_report-end-4 c = sym (length-take-le _ c.try_decode_quads.new.corners (roomy (goal.at.slice_bounds-write_report-end-4 c).In_ok-n).2)
 
--- what `?` passes on
-refused_by : (r : Result ℕ Refusal) (e : Refusal) → IsErrAnd r (λ x. x ≡ e) → outcome r ≡ refused (number_of e)
-refused_by (Err x) e h = ap (λ (y : Refusal). refused (number_of y)) h
-refused_by (Ok m) e h = absurd h
-
 pub returns-in_err-n : goal.returns-in_err-n
 returns-in_err-n c =
     let a = c.args in
     list_reported a.plane.now a.frame a.family a.codes.now a.quads.now a.rows.now a.corners.now a.report.now
     (outcome c.try_decode_quads.result) c.try_decode_quads.new.rows c.try_decode_quads.new.corners _ _ c.try_decode_quads.ensures
-    (ap (λ (o : Outcome ℕ). writing_of o a.report.now) (refused_by c.from_residual.result c.in_err-n.field-0.0 c.from_residual.ensures.1)
+    (ap (λ (o : Outcome ℕ). writing_of o a.report.now) (passed_on accepted c.from_residual.result c.in_err-n.field-0.0 c.from_residual.ensures.1)
     ∙ sym (ap (λ (x : Result ℕ Refusal). write_list a.report.now (listing_of (outcome x) c.try_decode_quads.new.rows c.try_decode_quads.new.corners) (outcome x)) c.in_err-n.was))
 
 pub returns : goal.returns

@@ -53,10 +53,10 @@ read_as d =
     let same : d.quad_at-quad.result ≡ quad_at a.quads.now d.loop-q.q = d.quad_at-quad.ensures in
     d.try_decode_quad-reading.ensures ∙ ap (reading a.picture.now.bytes.now a.picture.now.frame a.table.now.family a.table.now.codes.now) same
 
-pub count_id-requires : goal.count_id-requires
-count_id-requires c =
-    countable (reads (goal.at.count_id-requires c).Start) c.loop-q.q c.loop-q.times c.loop-q.invariant.counts (omega (arith, c.loop-q-test.true, (good_list c.requires).few))
-    (paper_reading c.try_decode_quad-reading.result) (subst Known (sym (read_as (goal.at.count_id-requires c).After-try_decode_quad-reading)) (reads_known (goal.at.count_id-requires c).Start c.loop-q.q))
+pub count-requires : goal.count-requires
+count-requires c =
+    countable (reads (goal.at.count-requires c).Start) c.loop-q.q c.loop-q.counts.times c.loop-q.invariant.counts (omega (arith, c.loop-q-test.true, (good_list c.requires).few))
+    (paper_reading c.try_decode_quad-reading.result) (subst Known (sym (read_as (goal.at.count-requires c).After-try_decode_quad-reading)) (reads_known (goal.at.count-requires c).Start c.loop-q.q))
 
 pub put_row-requires : goal.put_row-requires
 put_row-requires c = omega (arith, (good_list c.requires).row_room)
@@ -80,8 +80,8 @@ loop-q-preserved c =
           c.put_corners.ensures ∙ ap (λ (o : Outcome Tag). sets c.loop-q.corners (quad_size * q) (corners_of o)) e
           ∙ parts_more corners_of quad_size corners_size (reads s) q a.corners.now c.loop-q.corners (omega (arith, room.corner_room)) i.corners_are;
       counts =
-          subst (Counts (reads s) (q + 1)) (sym c.count_id.ensures)
-          (Counts-more (reads s) q c.loop-q.times i.counts (paper_reading c.try_decode_quad-reading.result) e (subst Known (sym e) (reads_known s q)));
+          subst (Counts (reads s) (q + 1)) (sym c.count.ensures)
+          (Counts-more (reads s) q c.loop-q.counts.times i.counts (paper_reading c.try_decode_quad-reading.result) e (subst Known (sym e) (reads_known s q)));
     }
 
 abbrev all_read : After-loop-q → List (Outcome Tag)
@@ -93,12 +93,12 @@ all_long c = let a = c.args in length-readings a.picture.now.bytes.now a.picture
 at_end : (c : After-loop-q) → c.loop-q.q ≡ quad_count (length c.args.quads.now)
 at_end c = omega arith
 
-counted : (c : After-loop-q) → FirstPass (all_read c) c.loop-q.times
+counted : (c : After-loop-q) → FirstPass (all_read c) c.loop-q.counts.times
 counted c =
     let a = c.args in
-    first_pass (reads (goal.at.After-loop-q c).Start) (all_read c) c.loop-q.times
+    first_pass (reads (goal.at.After-loop-q c).Start) (all_read c) c.loop-q.counts.times
     (λ p h. reading_at a.picture.now.bytes.now a.picture.now.frame a.table.now.family a.table.now.codes.now a.quads.now p (subst (λ (n : ℕ). p < n) (all_long c) h)) (reads_known (goal.at.After-loop-q c).Start)
-    (subst (λ (n : ℕ). Counts (reads (goal.at.After-loop-q c).Start) n c.loop-q.times) (at_end c ∙ sym (all_long c)) c.loop-q.invariant.counts)
+    (subst (λ (n : ℕ). Counts (reads (goal.at.After-loop-q c).Start) n c.loop-q.counts.times) (at_end c ∙ sym (all_long c)) c.loop-q.invariant.counts)
 
 rows_written : (c : After-loop-q) → c.loop-q.rows ≡ in_front (flat_map row_of (all_read c)) c.args.rows.now
 unfolding readings
@@ -112,7 +112,7 @@ corners_written c =
 
 -- ---- the second pass
 pub loop-p-init : goal.loop-p-init
-loop-p-init c = looked_at_none c.loop-q.times c.loop-q.rows c.loop-q.corners
+loop-p-init c = looked_at_none c.loop-q.counts.times c.loop-q.rows c.loop-q.corners
 
 pub refuse_repeated-requires : goal.refuse_repeated-requires
 refuse_repeated-requires c =
@@ -121,13 +121,13 @@ refuse_repeated-requires c =
     let among : c.loop-p.p < length (all_read f) = omega (arith, all_long f) in (
       omega (arith, room.row_room),
       omega (arith, room.corner_room),
-      row_known (all_read f) c.loop-q.times c.loop-p.rows c.args.rows.now c.loop-p.p among (counted f)
+      row_known (all_read f) c.loop-q.counts.times c.loop-p.rows c.args.rows.now c.loop-p.p among (counted f)
           (c.loop-p.invariant.rows_are (all_read f) c.args.rows.now (counted f) (omega (arith, among)) (rows_written f)),
     )
 
 pub loop-p-preserved : goal.loop-p-preserved
 loop-p-preserved c =
-    LookedAt-more c.loop-q.times c.loop-q.rows c.loop-q.corners c.loop-p.p c.loop-p.rows c.loop-p.corners _ _ c.loop-p.invariant c.refuse_repeated.ensures
+    LookedAt-more c.loop-q.counts.times c.loop-q.rows c.loop-q.corners c.loop-p.p c.loop-p.rows c.loop-p.corners _ _ c.loop-p.invariant c.refuse_repeated.ensures
 
 pub returns : goal.returns
 unfolding listing
@@ -135,6 +135,6 @@ returns c =
     let a = c.args in
     let f = (goal.at.returns c).After-loop-q in
     let n : ℕ = quad_count (length a.quads.now) in
-    let both = looked_at_all (all_read f) c.loop-q.times c.loop-q.rows a.rows.now c.loop-q.corners a.corners.now c.loop-p.p c.loop-p.rows c.loop-p.corners
+    let both = looked_at_all (all_read f) c.loop-q.counts.times c.loop-q.rows a.rows.now c.loop-q.corners a.corners.now c.loop-p.p c.loop-p.rows c.loop-p.corners
     (omega (arith, all_long f)) (counted f) (rows_written f) (corners_written f) c.loop-p.invariant in
     ap₂ (listing_of (accepted n)) both.0 both.1

@@ -16,8 +16,8 @@ invariant-loop-q l =
     record {
       rows_are : l.rows ≡ in_front (flat_map row_of (tabulate l.q reads)) l.initial.rows;
       corners_are : l.corners ≡ in_front (flat_map corners_of (tabulate l.q reads)) l.initial.corners;
-      counts : Counts reads l.q l.times;
+      counts : Counts reads l.q l.counts.times;
     }
 
 abbrev pub invariant-loop-p : goal.invariant-loop-p
-invariant-loop-p l = Again l.times l.initial.rows l.initial.corners l.p l.rows l.corners
+invariant-loop-p l = Again l.counts.times l.initial.rows l.initial.corners l.p l.rows l.corners

@@ -2,6 +2,7 @@
 use mathlib.Core.Path.{sym, ap, ◌∙◌, subst}
 use native.Mathlib.Omega.{arith}
 use Rattle.std.specs.Prelude.{Result}
+use Rattle.refusals.specs.Numbers.{done}
 use Rattle.refusals.specs.Pixels.{at_pitch}
 use Rattle.refusals.specs.declared.refusal.Refusal.{Refusal}
 use Rattle.points.specs.declared.Quad.{Quad}
@@ -9,8 +10,8 @@ use Rattle.points.specs.Turned.{turned_left}
 use Rattle.points.specs.Numbers.{quad_at}
 use Rattle.grid.proofs.Sheetable.{room}
 use Rattle.muosleap.specs.Quad.{decode_quad}
-use Rattle.muosleap_paint.specs.PaintSheet.{SheetPainting, painting_of, done}
-use Rattle.muosleap_paint.proofs.PaintSheet.{sheet_accepted}
+use Rattle.muosleap_paint.specs.PaintSheet.{painting_of}
+use Rattle.muosleap_paint.proofs.PaintSheet.{painted}
 use Rattle.paper.specs.Sheet.{SheetPainted}
 use Rattle.lit_reading.specs.Said.{lit_picture, lit_sheet, read_sheet_picture}
 use Rattle.lit_reading.specs.Sampleable.{Sampleable}
@@ -24,10 +25,7 @@ took t = sym t.paint_sheet.ensures ∙ ap (λ (x : Result (Unit {0}) Refusal). p
 
 -- so it has a quad for each position,
 pub quad_at-quad-requires : goal.quad_at-quad-requires
-quad_at-quad-requires c =
-    let a = c.args in
-    let wide = room (sheet_accepted a.plane.now a.frame a.family a.codes.now a.grid a.print a.quads.now (ap (λ (x : SheetPainting). x.answer) (took c))) in
-    omega (arith, c.requires, wide, c.paint_sheet.auto)
+quad_at-quad-requires c = omega (arith, c.requires, room (painted c.args.plane.now c.args.quads.now c.paint_sheet.ensures c.in-Ok.is), c.paint_sheet.auto)
 
 -- which can be sampled on the plane that was left
 sampleable : (t : In-Ok) → Sampleable t.paint_sheet.new.plane t.args.frame t.args.family (quad_at t.paint_sheet.new.quads t.args.position)

@@ -3,7 +3,8 @@ use Rattle.std.proofs.Common.{◌≡◌, ℕ, true, [], ◌∷◌, ◌++◌, sym
 use Rattle.readbits_lines.specs.Word.{is_word, number_of}
 use Rattle.text.specs.Text.{line_feed}
 use Rattle.readbits_lines.specs.Readbits.{searched, after_word}
-use Rattle.readbits_lines.proofs.Digits.{was_number, was_bad}
+use Rattle.std.proofs.lemmas.Option.{cond_some}
+use Rattle.readbits_lines.proofs.Digits.{was_bad}
 use Rattle.text.proofs.Join.{put_more, as_text}
 use Rattle.readbits_lines.proofs.Lines.{word_prints, bad_prints, word_four}
 use Rattle.readbits_lines.proofs.put_line.Goals.{In-Some}
@@ -17,7 +18,7 @@ returns-in_default c =
 
 -- the line is a word
 is : (c : In-Some) → (is_word c.args.line.now ≡ true) × (number_of c.args.line.now ≡ c.in-Some.bits)
-is c = let line = c.args.line.now in was_number (is_word line) (number_of line) c.in-Some.bits (sym c.word.ensures ∙ c.in-Some.is)
+is c = let line = c.args.line.now in cond_some (is_word line) (number_of line) c.in-Some.bits (sym c.word.ensures ∙ c.in-Some.is)
 
 pub put_answer-requires : goal.put_answer-requires
 put_answer-requires c = omega (arith, word_four c.args.line.now (is (goal.at.put_answer-requires c).In-Some).0, c.put-2.ensures)

@@ -1,64 +1,50 @@
--- The loop over the digits. Its invariant: the bytes passed are digits, and the number of them and of the rest is the line's.
-use borrow.Author.Tests.{eq-eqb, ne_eqb}
-use mathlib.Core.Path.{◌≡◌, refl, sym, ap, ◌∙◌}
-use mathlib.Core.Bool.{true}
-use Prim.Native.Nat.{ℕ, ◌+◌, ◌*◌, ◌<◌}
+-- The four digits. A line of another length is no word, nor is one in which a byte is no digit.
+use mathlib.Core.Path.{◌≡◌, ◌∙◌}
+use mathlib.Core.Bool.{false}
+use Prim.Native.Nat.{ℕ}
 use native.Mathlib.Omega.{arith}
-use lib.ListN.{length, drop, get_or}
-use Rattle.lists.proofs.All.{all_more, all_fails, all_done}
-use Rattle.readbits_lines.specs.Word.{is_digit, digit_number, is_word, number_from}
-use Rattle.readbits_lines.proofs.Digits.{was_digit, was_none, more_lt, few_lt, number_more, number_done}
-use Rattle.readbits_lines.proofs.word.Goals.{In_ok-bits}
+use lib.ListN.{get_or}
+use Rattle.std.proofs.Common.{List, Option, Some, None, cond}
+use Rattle.readbits_lines.specs.Word.{is_word, number_of}
+use Rattle.readbits_lines.proofs.Digits.{was_digit, was_none, other_length, no_digit, word_of}
 use Rattle.readbits_lines.proofs.word.Goals as goal
 
--- the digit that was read in this turn
-read : (c : In_ok-bits) →
-    let b = get_or c.args.line.now c.loop-byte.byte-index 0 in
-    let d = c.in_ok-bits.field-0 in
-    (is_digit b ≡ true) × (digit_number b ≡ d) × (d < 16)
-read c =
-    was_digit (get_or c.args.line.now c.loop-byte.byte-index 0) c.digit.ensures c.in_ok-bits.field-0 c.in_ok-bits.was
+-- what no word answers
+bad : (line : List ℕ) → is_word line ≡ false → ◌≡◌ {A = Option ℕ} None (cond (is_word line) (Some (number_of line)) None)
+bad line e = simp e
 
-pub returns-then-line-ne4 : goal.returns-then-line-ne4
-unfolding is_word
-returns-then-line-ne4 c = simp (ne_eqb (length c.args.line.now) 4 c.if-line-ne4.true)
+pub returns-in_default : goal.returns-in_default
+returns-in_default c = bad c.args.line.now (other_length c.args.line.now (λ e. omega (arith, c.in_default.len_below, e)))
 
-pub loop-byte-init : goal.loop-byte-init
-loop-byte-init c = (omega arith, refl, refl)
+pub returns-in_default-2 : goal.returns-in_default-2
+returns-in_default-2 c = bad c.args.line.now (other_length c.args.line.now (λ e. omega (arith, c.in_default.len_at_least, e)))
 
-pub returns-in_err-bits : goal.returns-in_err-bits
-unfolding is_word
-returns-in_err-bits c =
+pub returns-in_err-digit : goal.returns-in_err-digit
+returns-in_err-digit c =
     let line = c.args.line.now in
-    let i = c.loop-byte.byte-index in
-    let h : i < length line = omega arith in
-    let n = was_none (get_or line i 0) c.digit.ensures c.in_err-bits.was in
-    c.from_residual.ensures ∙ simp (eq-eqb (length line) 4 c.if-line-ne4.false, sym (all_fails is_digit line i 0 h (is_digit (get_or line i 0)) refl n c.loop-byte.invariant.1))
+    c.from_residual.ensures ∙ bad line (no_digit line 0 (omega arith) (was_none (get_or line 0 0) c.digit.ensures.number c.in_err-digit.was))
 
-pub overflow_mul-bits : goal.overflow_mul-bits
-overflow_mul-bits c =
-    let h : c.loop-byte.byte-index < 4 = omega arith in
-    omega (arith, few_lt c.loop-byte.byte-index c.loop-byte.bits h c.loop-byte.invariant.0)
-
-pub overflow_add-bits : goal.overflow_add-bits
-overflow_add-bits c =
-    let h : c.loop-byte.byte-index < 4 = omega arith in
-    omega (arith, few_lt c.loop-byte.byte-index c.loop-byte.bits h c.loop-byte.invariant.0, (read c).2)
-
-pub loop-byte-preserved : goal.loop-byte-preserved
-loop-byte-preserved c =
+pub returns-in_err-digit-2 : goal.returns-in_err-digit-2
+returns-in_err-digit-2 c =
     let line = c.args.line.now in
-    let b = get_or line c.loop-byte.byte-index 0 in
-    let d = c.in_ok-bits.field-0 in
-    let r = read c in
-    let h : c.loop-byte.byte-index < length line = omega arith in (
-      more_lt c.loop-byte.byte-index c.loop-byte.bits d c.loop-byte.invariant.0 r.2,
-      all_more is_digit line c.loop-byte.byte-index 0 h (is_digit b) refl r.0 c.loop-byte.invariant.1,
-      ap (λ (n : ℕ). number_from (c.loop-byte.bits * 16 + n) (drop (c.loop-byte.byte-index + 1) line)) (sym r.1) ∙ number_more line c.loop-byte.byte-index c.loop-byte.bits h c.loop-byte.invariant.2,
-    )
+    c.from_residual-in_err-digit-2.ensures ∙ bad line (no_digit line 1 (omega arith) (was_none (get_or line 1 0) c.digit-2.ensures.number c.in_err-digit-2.was))
+
+pub returns-in_err-digit-3 : goal.returns-in_err-digit-3
+returns-in_err-digit-3 c =
+    let line = c.args.line.now in
+    c.from_residual-in_err-digit-3.ensures ∙ bad line (no_digit line 2 (omega arith) (was_none (get_or line 2 0) c.digit-3.ensures.number c.in_err-digit-3.was))
+
+pub returns-in_err-digit-4 : goal.returns-in_err-digit-4
+returns-in_err-digit-4 c =
+    let line = c.args.line.now in
+    c.from_residual-in_err-digit-4.ensures ∙ bad line (no_digit line 3 (omega arith) (was_none (get_or line 3 0) c.digit-4.ensures.number c.in_err-digit-4.was))
 
 pub returns : goal.returns
-unfolding is_word
 returns c =
     let line = c.args.line.now in
-    simp (eq-eqb (length line) 4 c.if-line-ne4.false, sym (all_done is_digit line c.loop-byte.byte-index (omega arith) c.loop-byte.invariant.1), number_done line c.loop-byte.byte-index c.loop-byte.bits (omega arith) c.loop-byte.invariant.2)
+    let w = word_of line (omega arith) c.in_ok-digit.field-0 c.in_ok-digit-2.field-0 c.in_ok-digit-3.field-0 c.in_ok-digit-4.field-0
+    (was_digit (get_or line 0 0) c.digit.ensures.number c.in_ok-digit.field-0 c.in_ok-digit.was)
+    (was_digit (get_or line 1 0) c.digit-2.ensures.number c.in_ok-digit-2.field-0 c.in_ok-digit-2.was)
+    (was_digit (get_or line 2 0) c.digit-3.ensures.number c.in_ok-digit-3.field-0 c.in_ok-digit-3.was)
+    (was_digit (get_or line 3 0) c.digit-4.ensures.number c.in_ok-digit-4.field-0 c.in_ok-digit-4.was) in
+    simp (w.0, w.1)

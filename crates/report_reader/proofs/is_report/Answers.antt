@@ -8,15 +8,14 @@ use lib.ListN.{length, drop, replicate, length-drop}
 use Rattle.refusals.specs.Outcome.{Outcome}
 use Rattle.reader.specs.Reading.{Tag}
 use Rattle.reader.specs.Answer.{paper_reading}
-use Rattle.report.specs.Reading.{good_row}
 use Rattle.report.specs.Bytes.{row_bytes}
 use Rattle.report.specs.Report.{row_in, is_report}
 use Rattle.report.specs.Steps.{bytes_stand, byte_candidates, is_met, meet, placed}
 use Rattle.report.proofs.Same.{part_from}
 use Rattle.report_reader.specs.Steps.{ends_at}
-use Rattle.report_reader.proofs.Stands.{stands_good, stands_long}
+use Rattle.report_reader.proofs.Stands.{stands_long}
 use Rattle.report_reader.proofs.Whole.{report_placed, left, fallen, met_before, goes_on, none_left_over}
-use Rattle.report_reader.proofs.is_report.Goals.{After-read_row-row, After-row_size-at, After-row_stands, At-loop-q}
+use Rattle.report_reader.proofs.is_report.Goals.{After-row_size-at, At-loop-q, In-Some}
 use Rattle.report_reader.proofs.is_report.Goals as goal
 
 -- looking at the bytes from here on gives the answer
@@ -31,58 +30,42 @@ loop-q-init c = (
   ap₂ (λ (m : List Bool) (n : ℕ). placed m (byte_candidates n (drop 2 c.args.report.now)) 2) (sym c.none-met.ensures) (omega arith),
 )
 
-module _ (d : After-row_stands) where
-  stands_is : d.row_stands.result ≡ bytes_stand ((drop d.loop-q.at d.args.report.now))
-  stands_is = d.row_stands.ensures ∙ ap bytes_stand (part_from d.args.report.now d.loop-q.at)
-
-pub returns-then-not-row_stands : goal.returns-then-not-row_stands
-returns-then-not-row_stands c =
-    sym (from_here (goal.at.returns-then-not-row_stands c).At-loop-q ∙ ap (ends_at (length c.args.report.now))
-    (fallen c.args.report.now c.args.count c.loop-q.q c.loop-q.at c.loop-q-test.true c.loop-q.met.ids (sym (stands_is (goal.at.returns-then-not-row_stands c).After-row_stands) ∙ c.if-not-row_stands.true)))
-
-pub read_row-row-requires : goal.read_row-row-requires
-read_row-row-requires c = sym c.row_stands.ensures ∙ c.if-not-row_stands.false
+pub returns-in_default : goal.returns-in_default
+returns-in_default c =
+    sym (from_here (goal.at.returns-in_default c).At-loop-q ∙ ap (ends_at (length c.args.report.now))
+    (fallen c.args.report.now c.args.count c.loop-q.q c.loop-q.at c.loop-q-test.true c.loop-q.met.ids (sym (ap bytes_stand (part_from c.args.report.now c.loop-q.at)) ∙ c.in_default.ensures.nothing)))
 
 -- the row that was read, which stands
-module _ (r : After-read_row-row) where
-  stands : bytes_stand ((drop r.loop-q.at r.args.report.now)) ≡ true
-  stands = sym (stands_is (goal.at.After-read_row-row r).After-row_stands) ∙ r.if-not-row_stands.false
+module _ (r : In-Some) where
+  stands : bytes_stand (drop r.loop-q.at r.args.report.now) ≡ true
+  stands = sym (ap bytes_stand (part_from r.args.report.now r.loop-q.at)) ∙ r.in-Some.ensures.row.0
 
-  read_is : paper_reading r.read_row-row.result ≡ row_in ((drop r.loop-q.at r.args.report.now))
-  read_is = r.read_row-row.ensures ∙ ap row_in (part_from r.args.report.now r.loop-q.at)
-
-  good : good_row (paper_reading r.read_row-row.result) ≡ true
-  good = ap good_row read_is ∙ stands_good ((drop r.loop-q.at r.args.report.now)) stands
+  read_is : paper_reading r.in-Some.row ≡ row_in (drop r.loop-q.at r.args.report.now)
+  read_is = r.in-Some.ensures.row.1 ∙ ap row_in (part_from r.args.report.now r.loop-q.at)
 
   -- all of it is there
-  within : r.loop-q.at + length (row_bytes (row_in ((drop r.loop-q.at r.args.report.now)))) ≤ length r.args.report.now
-  within = omega (arith, stands_long ((drop r.loop-q.at r.args.report.now)) stands, length-drop r.loop-q.at r.args.report.now, r.loop-q.invariant.0)
-
-pub has-requires : goal.has-requires
-has-requires c = good (goal.at.has-requires c).After-read_row-row
+  within : r.loop-q.at + length (row_bytes (row_in (drop r.loop-q.at r.args.report.now))) ≤ length r.args.report.now
+  within = omega (arith, stands_long (drop r.loop-q.at r.args.report.now) stands, length-drop r.loop-q.at r.args.report.now, r.loop-q.invariant.0)
 
 pub returns-then-has : goal.returns-then-has
 returns-then-has c =
     sym (from_here (goal.at.returns-then-has c).At-loop-q ∙ ap (ends_at (length c.args.report.now))
-    (met_before c.args.report.now c.args.count c.loop-q.q c.loop-q.at c.loop-q-test.true c.loop-q.met.ids (ap (is_met c.loop-q.met.ids) (sym (read_is (goal.at.returns-then-has c).After-read_row-row)) ∙ sym c.has.ensures ∙ c.if-has.true)))
+    (met_before c.args.report.now c.args.count c.loop-q.q c.loop-q.at c.loop-q-test.true c.loop-q.met.ids (ap (is_met c.loop-q.met.ids) (sym (read_is (goal.at.returns-then-has c).In-Some)) ∙ sym c.has.ensures ∙ c.if-has.true)))
 
-pub add-requires : goal.add-requires
-add-requires c = good (goal.at.add-requires c).After-read_row-row
-
-size_is : (c : After-row_size-at) → c.row_size-at.result ≡ length (row_bytes (row_in ((drop c.loop-q.at c.args.report.now))))
-size_is c = c.row_size-at.ensures ∙ ap (λ (o : Outcome Tag). length (row_bytes o)) (read_is (goal.at.After-row_size-at c).After-read_row-row)
+size_is : (c : After-row_size-at) → c.row_size-at.result ≡ length (row_bytes (row_in (drop c.loop-q.at c.args.report.now)))
+size_is c = c.row_size-at.ensures ∙ ap (λ (o : Outcome Tag). length (row_bytes o)) (read_is (goal.at.After-row_size-at c).In-Some)
 
 pub overflow_add-at : goal.overflow_add-at
-overflow_add-at c = omega (arith, size_is c, within (goal.at.overflow_add-at c).After-read_row-row)
+overflow_add-at c = omega (arith, size_is c, within (goal.at.overflow_add-at c).In-Some)
 
 pub loop-q-preserved : goal.loop-q-preserved
 loop-q-preserved c =
     let q = c.loop-q.q in
     let n = c.args.count in (
-      omega (arith, size_is c, within (goal.at.loop-q-preserved c).After-read_row-row),
+      omega (arith, size_is c, within (goal.at.loop-q-preserved c).In-Some),
       c.loop-q.invariant.1
-          ∙ goes_on c.args.report.now n q c.loop-q.at c.loop-q-test.true c.loop-q.met.ids (stands (goal.at.loop-q-preserved c).After-read_row-row) (ap (is_met c.loop-q.met.ids) (sym (read_is (goal.at.loop-q-preserved c).After-read_row-row)) ∙ sym c.has.ensures ∙ c.if-has.false)
-          ∙ sym (ap₂ (λ (m : List Bool) (k : ℕ). placed m (left c.args.report.now n (q + 1) (c.loop-q.at + k)) (c.loop-q.at + k)) (c.add.ensures ∙ ap (meet c.loop-q.met.ids) (read_is (goal.at.loop-q-preserved c).After-read_row-row)) (size_is c)),
+          ∙ goes_on c.args.report.now n q c.loop-q.at c.loop-q-test.true c.loop-q.met.ids (stands (goal.at.loop-q-preserved c).In-Some) (ap (is_met c.loop-q.met.ids) (sym (read_is (goal.at.loop-q-preserved c).In-Some)) ∙ sym c.has.ensures ∙ c.if-has.false)
+          ∙ sym (ap₂ (λ (m : List Bool) (k : ℕ). placed m (left c.args.report.now n (q + 1) (c.loop-q.at + k)) (c.loop-q.at + k)) (c.add.ensures ∙ ap (meet c.loop-q.met.ids) (read_is (goal.at.loop-q-preserved c).In-Some)) (size_is c)),
     )
 
 pub returns : goal.returns

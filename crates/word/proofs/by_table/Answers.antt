@@ -8,7 +8,8 @@ use lib.ListN.{length, get_or}
 use Rattle.lists.proofs.All.{all_at}
 use Rattle.word.specs.Word.{word}
 use Rattle.word.specs.Gathered.{gathered}
-use Rattle.word.proofs.Bits.{bit-lt, word-lt, word_more}
+use Rattle.std.proofs.lemmas.Nat.Bits.{bit_at-lt}
+use Rattle.word.proofs.Bits.{word-lt, word_more}
 use Rattle.word.proofs.by_table.Invariants.{taken}
 use Rattle.word.proofs.by_table.Goals as goal
 
@@ -25,8 +26,8 @@ pub with_bit-b-requires : goal.with_bit-b-requires
 with_bit-b-requires c =
     let a = c.args in (
       omega arith,
-      subst (λ (x : ℕ). x < 2 ^ c.loop-k.k) (sym c.loop-k.invariant) (word-lt c.loop-k.k (taken a.table.now a.bits) (λ k. bit-lt a.bits (get_or a.table.now k 0))),
-      subst (λ (x : ℕ). x < 2) (sym c.bit_at.ensures) (bit-lt a.bits (get_or a.table.now c.loop-k.k 0)),
+      subst (λ (x : ℕ). x < 2 ^ c.loop-k.k) (sym c.loop-k.invariant) (word-lt c.loop-k.k (taken a.table.now a.bits) (λ k. bit_at-lt a.bits (get_or a.table.now k 0))),
+      subst (λ (x : ℕ). x < 2) (sym c.bit_at.ensures) (bit_at-lt a.bits (get_or a.table.now c.loop-k.k 0)),
     )
 
 pub loop-k-preserved : goal.loop-k-preserved

@@ -2,7 +2,7 @@
 use mathlib.Core.Path.{◌≡◌, ap, ap₂, ◌∙◌}
 use Prim.Native.Nat.{ℕ, ◌+◌, ◌*◌, ◌≤◌}
 use native.Mathlib.Omega.{arith}
-use Rattle.painter.specs.Tag.{side_of}
+use Rattle.tables.specs.Table.{side_of}
 use Rattle.grid.specs.Quads.{position_row, position_column}
 use Rattle.grid.proofs.Sheetable.{across_ends, down_ends}
 use Rattle.grid.proofs.Sheet.position_print.Goals.{After-side}

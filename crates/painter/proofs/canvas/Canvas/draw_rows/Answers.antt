@@ -5,8 +5,9 @@ use native.Mathlib.Omega.{arith}
 use lib.ListN.{length}
 use Rattle.lists.proofs.Tab.{length-tabulate}
 use Rattle.refusals.proofs.Pixels.{good_frame}
+use Rattle.tables.specs.Table.{side_of}
 use Rattle.painter.specs.Picture.{repainted}
-use Rattle.painter.specs.Tag.{side_of, size_of}
+use Rattle.painter.specs.Tag.{size_of}
 use Rattle.painter.specs.Part.{row_shade, part_pixel}
 use Rattle.painter.proofs.Part.{no_row, one_row_more}
 use Rattle.painter.proofs.Printable.{good_place, cells_le}

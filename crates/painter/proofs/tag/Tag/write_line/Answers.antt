@@ -4,8 +4,8 @@ use Prim.Native.Nat.{ℕ, ◌+◌, ◌-◌, ◌*◌, ◌≤◌}
 use native.Mathlib.Omega.{arith}
 use lib.ListN.{length}
 use Rattle.std.proofs.lemmas.Grind.{common_steps}
+use Rattle.tables.specs.Table.{side_of}
 use Rattle.painter.specs.Picture.{run_written}
-use Rattle.painter.specs.Tag.{side_of}
 use Rattle.painter.specs.Part.{row_shade, dark_line}
 use Rattle.painter.proofs.Printable.{RowOf, row_of, cells_le}
 use Rattle.painter.proofs.Line.{made_dark, left_border, light_module, dark_module, right_border}

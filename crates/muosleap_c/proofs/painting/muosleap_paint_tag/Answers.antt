@@ -1,6 +1,0 @@
--- What the call leaves, with the structs of C's numbers, is what is said. Assumes nothing.
-use Rattle.muosleap_c.proofs.painting.muosleap_paint_tag.Goals as goal
-
-pub returns : goal.returns
-returns c =
-    rw (c.print_of-print.ensures, c.frame_of-frame.ensures) at c.paint_tag.ensures
