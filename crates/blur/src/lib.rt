@@ -1,7 +1,7 @@
 //! The blur. Each sample becomes a sum: its taps, which are the samples around it in its row or its column, each times its
 //! weight, added up in the order of the weights. The sums of samples side by side are made in blocks of 32, since 32 sums stay in
-//! registers while all weights are added, and are worked on in vector instructions. Near an edge, where taps are repeated, sums
-//! are made one at a time across, and a whole row at a time down.
+//! registers while all weights are added, and are worked on in vector instructions; in blocks of 16 where they are fewer than 32.
+//! Near an edge, where taps are repeated, sums are made one at a time across, and a whole row at a time down.
 #![tactic(auto)]
 
 ghost use Rattle.std.specs.Prelude.{◌≡◌, ◌+◌, ◌-◌, ◌*◌, ◌<◌, ◌≤◌, length, get_or};
@@ -11,9 +11,6 @@ ghost use Rattle.blur.specs.Blur.{bad_weights, along, repeated, across, down};
 ghost use Rattle.blur.specs.Steps.{added, Reach, sums_at};
 
 use samples::{Plane, UNIT};
-
-/// How many sums are made together.
-const BLOCK: usize = 32;
 
 /// Refusal 2: the weights are not an odd number from 1 to 15, or one is outside of 0.0 to 1.0 or a NaN.
 #[tactic(auto, using(std::proofs::lemmas::Bool::Decides::nat_tests), unfolding(crate::specs::Blur::bad_weights))]
@@ -58,32 +55,43 @@ impl Taps<'_> {
         }
     }
 
-    /// The sums of a block. They are added up in an array of their own, which the compiler keeps in registers: sums in `block` would
-    /// go to memory and back with each weight.
-    fn sum_block(self, block: &mut [f32])
-        requires { (length block.old ≡ 32) × Reach self 32 }
-        ensures { block.new ≡ sums_at self.entry 32 }
+    /// The sums of a block of `N`. They are added up in an array of their own, which the compiler keeps in registers: sums in `block`
+    /// would go to memory and back with each weight.
+    fn sum_block<const N: usize>(self, block: &mut [f32])
+        requires { (length block.old ≡ N) × Reach self N }
+        ensures { block.new ≡ sums_at self.entry N }
     {
-        let mut sums = [0.0; BLOCK];
+        let mut sums = [0.0; N];
         self.sum(&mut sums);
         block.copy_from_slice(&sums);
     }
 
-    /// Any number of sums, in blocks. The last block ends where the row ends. It may lie over a part of the block before it, whose sums
-    /// it makes again.
+    /// Any number of sums from `N` on, in blocks of `N`. The last block ends where the row ends. It may lie over a part of the block
+    /// before it, whose sums it makes again. This is not inlined: in one function with it `sum` has too few registers, and rows of
+    /// fewer than 16 sums take a tenth more time.
+    #[inline(never)]
+    fn sum_blocks_of<const N: usize>(self, row: &mut [f32])
+        requires block { (0 < N) × (N ≤ length row.old) }
+        requires reach { Reach self (length row.old) }
+        ensures { row.new ≡ sums_at self.entry (length row.old) }
+    {
+        let n = row.len();
+        for next in (0..n).step_by(N) {
+            let from = next.min(n - N);
+            let start = self.start + from;
+            Taps { start, ..self }.sum_block::<N>(&mut row[from..from + N]);
+        }
+    }
+
+    /// Any number of sums: in blocks of 32, of 16 where they are fewer than 32, and without blocks where they are fewer than 16.
     fn sum_blocks(self, row: &mut [f32])
         requires { Reach self (length row.old) }
         ensures { row.new ≡ sums_at self.entry (length row.old) }
     {
-        let n = row.len();
-        if n < BLOCK {
-            self.sum(row);
-            return;
-        }
-        for block in 0..n.div_ceil(BLOCK) {
-            let from = (block * BLOCK).min(n - BLOCK);
-            let start = self.start + from;
-            Taps { start, ..self }.sum_block(&mut row[from..from + BLOCK]);
+        match row.len() {
+            32.. => self.sum_blocks_of::<32>(row),
+            16..32 => self.sum_blocks_of::<16>(row),
+            _ => self.sum(row),
         }
     }
 }

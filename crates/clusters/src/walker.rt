@@ -32,8 +32,10 @@ impl<'a> Walker<'a> {
     /// The neighbours of sample p are claimed: to its left, to its right, above it and below it, as far as they lie in the plane.
     #[tactic(auto, unfolding(crate::specs::Walk::claimed_if))]
     pub(crate) fn claim_around(&mut self, width: usize, p: usize)
-        requires { (0 < width) × (width ≤ 4096) × (length self.old.mat.now % width ≡ 0) × (length self.old.mat.now ≤ 16777216) × (p < length self.old.mat.now) × (self.old.pending + 4 ≤ length self.old.worklist.now) }
-        ensures worklist_after { walk self.new.mat.now self.new.pending self.new.worklist.now ≡ claimed_beside self.old.threshold width (length self.old.mat.now) p (walk self.old.mat.now self.old.pending self.old.worklist.now) }
+        requires { (0 < width) × (width ≤ 4096) × (length self.old.mat.now % width ≡ 0) × (length self.old.mat.now ≤ 16777216)
+            × (p < length self.old.mat.now) × (self.old.pending + 4 ≤ length self.old.worklist.now) }
+        ensures worklist_after { walk self.new.mat.now self.new.pending self.new.worklist.now
+            ≡ claimed_beside self.old.threshold width (length self.old.mat.now) p (walk self.old.mat.now self.old.pending self.old.worklist.now) }
         ensures upper_bound { self.new.pending ≤ self.old.pending + 4 }
         ensures same_threshold { self.new.threshold ≡ self.old.threshold }
         ensures same_lengths { (length self.new.mat.now ≡ length self.old.mat.now) × (length self.new.worklist.now ≡ length self.old.worklist.now) }

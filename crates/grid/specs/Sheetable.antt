@@ -1,4 +1,4 @@
--- What the functions that draw a sheet ask for. Assumes nothing.
+-- What the entries that paint a sheet have tested; the laws of sheets are said of it. Assumes nothing.
 use Rattle.std.specs.Prelude.{ℕ, ◌≡◌, false, List, length}
 use Rattle.refusals.specs.Pixels.{bad_frame}
 use Rattle.refusals.specs.declared.Frame.{Frame}

@@ -159,6 +159,7 @@ impl<'a> Sheet<'a> {
         requires room { bad_output self.now.grid (length quads.old) ≡ false }
         ensures painted { canvas.new.bytes.now ≡ sheet canvas.old.frame self.now.table.family self.now.table.codes.now self.now.grid self.now.print canvas.old.bytes.now }
         ensures quads { quads.new ≡ in_front (sheet_quads self.now.table.family self.now.grid self.now.print) quads.old }
+        ensures same_frame { canvas.new.frame ≡ canvas.old.frame }
         ensures same_loan { canvas.new.bytes.ghost_name ≡ canvas.old.bytes.ghost_name }
     {
         let square = self.square();

@@ -3,19 +3,17 @@ use mathlib.Core.Path.{◌≡◌, refl, sym, ap, ap₂, ◌∙◌, subst}
 use mathlib.Core.Bool.{Bool, true, false, cond}
 use mathlib.Core.List.{List, [], ◌∷◌, foldl}
 use Prim.Native.Nat.{ℕ, zero, suc, ◌+◌, ◌-◌, ◌*◌, ◌^◌, ◌≤◌, ◌<◌}
-use native.Mathlib.Nat.{pow-suc, mul_assoc, not-suc-le-zero}
+use native.Mathlib.Nat.{pow-suc, mul_assoc, add_comm, le_of_suc-le-suc, not-suc-le-zero}
 use native.Mathlib.Numerals.{add-one}
 use native.Mathlib.Omega.{arith}
-use Rattle.std.specs.List.{count_by}
-use Rattle.std.proofs.lemmas.List.Sums.{sum_by-cons}
 use mir.Val.{bool_byte}
 use lib.Dec.{ltb}
 use lib.ListN.{length, get_or}
 use lib.Pow.{pow_mono}
 use Rattle.lists.specs.Sum.{sum, one_if}
-use Rattle.lists.proofs.Sum.{sum_first, one_if-lt}
+use Rattle.lists.proofs.Sum.{sum_most, one_if-lt}
 use Rattle.word.specs.Word.{word}
-use Rattle.levels.specs.Levels.{over_all, above, distance, unsure_of}
+use Rattle.levels.specs.Levels.{over_all, above, distance, unsure}
 use Rattle.word.proofs.Bits.{word-lt, word_ext}
 
 -- ---- least and greatest: the first level, joined with all
@@ -27,18 +25,21 @@ over_first f (v ∷ vs) same h = ap (λ (x : ℕ). foldl f x vs) (same v)
 
 -- ---- the number of unsure levels
 
-counted : (p : ℕ → Bool) (l : List ℕ) → count_by p l ≡ sum (length l) (λ k. one_if (p (get_or l k 0)))
-unfolding sum
-counted p [] = refl
-counted p (v ∷ vs) = sum_by-cons (λ x. cond (p x) 1 0) v vs ∙ one (p v) (counted p vs) ∙ sym (sum_first (length vs) (λ k. one_if (p (get_or (v ∷ vs) k 0))))
-  where
-    one : (t : Bool) → count_by p vs ≡ sum (length vs) (λ k. one_if (p (get_or vs k 0))) → cond t 1 0 + count_by p vs ≡ one_if t + sum (length vs) (λ k. one_if (p (get_or vs k 0)))
-    one true e = ap (λ (n : ℕ). 1 + n) e
-    one false e = ap (λ (n : ℕ). 0 + n) e
+pub unsure-lt : (middle band level : ℕ) → unsure middle band level < 2
+unsure-lt middle band level = one_if-lt (ltb (distance level middle) band)
 
-pub unsure_counted : (middle band : ℕ) (l : List ℕ) → count_by (λ level. ltb (distance level middle) band) l ≡ unsure_of middle band l
-unfolding unsure_of
-unsure_counted middle band l = counted (λ level. ltb (distance level middle) band) l
+module _ (middle band : ℕ) (levels : List ℕ) where
+  -- among the first i levels
+  abbrev pub first_unsure : ℕ → ℕ
+  first_unsure i = sum i (λ k. unsure middle band (get_or levels k 0))
+
+  pub unsure-le : (i : ℕ) → first_unsure i ≤ i
+  unsure-le i = omega (arith, sum_most i 1 (λ k. unsure middle band (get_or levels k 0)) (λ k l. le_of_suc-le-suc (unsure-lt middle band (get_or levels k 0))))
+
+  pub unsure_more : (i n r : ℕ) → r ≡ unsure middle band (get_or levels i 0) → n ≡ first_unsure i → n + r ≡ first_unsure (i + 1)
+  unfolding sum
+  unsure_more i n r e inv =
+      add_comm n r ∙ ap₂ (λ (x y : ℕ). x + y) e inv ∙ ap (λ (x : ℕ). first_unsure x) (sym (add-one i))
 
 -- ---- the word
 

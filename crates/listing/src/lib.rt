@@ -61,14 +61,17 @@ fn corners_of(reading: Reading) -> [f32; QUAD_SIZE]
     }
 }
 
-/// Puts a reading's row at row q.
-#[tactic(auto, using(points::proofs::Numbers::part_stores, crate::proofs::Sizes::row_size_lem))]
+/// Puts a reading's row at row q, number by number: copied as an array, it went to memory first.
 pub fn put_row(rows: &mut [u64], q: usize, reading: Reading)
     requires { row_size * q + row_size ≤ length rows.old }
     ensures { rows.new ≡ sets rows.old (row_size * q) (row_of (paper_reading reading)) }
 {
     let at = ROW_SIZE * q;
-    rows[at..at + ROW_SIZE].copy_from_slice(&row_of(reading));
+    let [refusal, id, turn, differing] = row_of(reading);
+    rows[at] = refusal;
+    rows[at + 1] = id;
+    rows[at + 2] = turn;
+    rows[at + 3] = differing;
 }
 
 /// Puts a reading's corner numbers at quad q.

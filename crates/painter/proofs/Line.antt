@@ -7,7 +7,7 @@ use native.Mathlib.Nat.{add-mul, div-lt_iff_lt-mul, le-div_iff_mul-le}
 use native.Mathlib.Omega.{arith}
 use lib.ListN.{length, get_or}
 use borrow.Rule.Slice.PartMut.{put_mid}
-use Rattle.std.proofs.lemmas.Bool.{and_right}
+use Rattle.std.proofs.lemmas.Bool.{and_left, and_right}
 use Rattle.lists.proofs.Grid.{next_row}
 use Rattle.lists.proofs.Tab.{length-tabulate, get_or-tabulate}
 use Rattle.painter.specs.Picture.{between, run_written}
@@ -49,6 +49,10 @@ module _ (edge border word : ℕ) (print : Print) (row : ℕ) (r : RowOf edge bo
   -- as in a column of the border
   border_column : (k : ℕ) → k < length dark → between border edge (k / cell) ≡ false → get_or dark k 0 ≡ shade k
   border_column k b e = stays_dark k (omega (arith, b, long)) (and_right (between border edge row) (between border edge (k / cell)) e)
+
+  -- a whole row of the border
+  pub border_row : between border edge row ≡ false → dark ≡ row_line edge border word print row
+  border_row e = tabulated shade size dark long (λ k b. stays_dark k b (and_left (between border edge row) (between border edge (k / cell)) e))
 
   -- the cells before the first module
   pub left_border : dark ≡ run_written 0 (border * cell) shade dark

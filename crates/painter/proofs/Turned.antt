@@ -2,7 +2,7 @@
 -- is turned as the print is. Assumes nothing.
 use mathlib.Core.Path.{◌≡◌, refl, ap, ◌∙◌}
 use mathlib.Core.Bool.{Bool, false, ◌&&◌, cond, and_comm}
-use Prim.Native.Nat.{ℕ, zero, suc, ◌+◌, ◌-◌, ◌<◌}
+use Prim.Native.Nat.{ℕ, zero, suc, ◌+◌, ◌-◌, ◌<◌, ◌≤◌}
 use native.Mathlib.Omega.{arith}
 use lib.Dec.{eqb}
 use Rattle.std.specs.Cmp.{both_ways}
@@ -33,6 +33,21 @@ module _ (side : ℕ) where
   quarter_back i j h = ap (λ (n : ℕ). cell_at n j) (omega arith)
 
 -- ---- the modules inside the border
+
+-- a cell inside the border
+pub record Inside (edge border : ℕ) (c : Cell) : Type 0 where
+  pub rows : (border ≤ c.row) × (c.row < border + edge)
+  pub columns : (border ≤ c.column) × (c.column < border + edge)
+
+module _ (edge border : ℕ) where
+  quarter_inside : (c : Cell) → Inside edge border c → Inside edge border (quarter (side_of edge border) c)
+  quarter_inside c i = record { rows = (omega (arith, i.columns.1), omega (arith, i.columns.0, i.columns.1)); columns = i.rows }
+
+  -- turned, it is inside again
+  pub turned_inside : (t : ℕ) (c : Cell) → Inside edge border c → Inside edge border (turned_cell (side_of edge border) t c)
+  unfolding turned_cell
+  turned_inside zero c i = i
+  turned_inside (suc t) c i = quarter_inside (turned_cell (side_of edge border) t c) (turned_inside t c i)
 
 -- the cell of the whole square that has the module at c
 abbrev pub inset : ℕ → Cell → Cell

@@ -68,28 +68,28 @@ impl Tag {
         (self.word >> (edge * edge - 1 - (i * edge + j))) & 1 == 1
     }
 
-    /// The print's cell is light: it lies inside the border, and has a light module.
+    /// The print's cell, one inside the border, is light: it has a light module.
     #[tactic(auto, unfolding(crate::specs::Tag::is_light))]
     fn is_light(self, cell: Cell) -> bool
+        requires rows { (self.square.border ≤ cell.row) × (cell.row < self.square.border + self.square.edge) }
+        requires columns { (self.square.border ≤ cell.column) × (cell.column < self.square.border + self.square.edge) }
         ensures { result ≡ is_light self.square.edge self.square.border self.word cell }
     {
         let border = self.square.border as usize;
-        let modules = border..border + self.square.edge as usize;
-        modules.contains(&cell.row)
-            && modules.contains(&cell.column)
-            && self.has_light_module(cell.row - border, cell.column - border)
+        self.has_light_module(cell.row - border, cell.column - border)
     }
 
-    /// The cell that the picture has in `row` and `column` of the tag is light.
+    /// The cell that the picture has in `row` and `column` of the tag, one inside the border, is light.
     fn shows_light(self, row: usize, column: usize) -> bool
-        requires { (row < side_of self.square.edge self.square.border) × (column < side_of self.square.edge self.square.border) }
+        requires rows { (self.square.border ≤ row) × (row < self.square.border + self.square.edge) }
+        requires columns { (self.square.border ≤ column) × (column < self.square.border + self.square.edge) }
         ensures { result ≡ shows_light self.square.edge self.square.border self.word self.print (cell_at row column) }
     {
         self.is_light(turned_cell(self.square.side(), self.print.turn, row, column))
     }
 
-    /// A line of the tag's pixels through a row of cells. The columns of the border are dark, so that no cell in them is tested; in the
-    /// border's own rows the cells between them are tested, and found dark.
+    /// A line of the tag's pixels through a row of cells. The border is dark: only modules are tested, and in the border's own rows
+    /// nothing is.
     pub(crate) fn write_line(self, line: &mut [u8], row: usize)
         requires inside { row < side_of self.square.edge self.square.border }
         requires wide { length line.old ≡ size_of self.square.edge self.square.border self.print }
@@ -97,11 +97,14 @@ impl Tag {
     {
         let cell = self.print.cell;
         let first = self.square.border as usize;
+        let end = first + self.square.edge as usize;
         line.fill(self.print.dark);
-        for column in first..first + self.square.edge as usize {
-            if self.shows_light(row, column) {
-                let start = column * cell;
-                line[start..start + cell].fill(self.print.light);
+        if (first..end).contains(&row) {
+            for column in first..end {
+                if self.shows_light(row, column) {
+                    let start = column * cell;
+                    line[start..start + cell].fill(self.print.light);
+                }
             }
         }
     }

@@ -14,7 +14,7 @@ pub struct Coordinate {
 }
 
 /// Refusal 8 for one coordinate.
-fn bad_coordinate(x: f32) -> bool
+pub(crate) fn bad_coordinate(x: f32) -> bool
     ensures { result ≡ bad_coordinate x }
 {
     !(-16384.0 < x && x < 16384.0)

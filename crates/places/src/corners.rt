@@ -1,10 +1,25 @@
 //! Corners that refusal 8 lets through: refusal 9, and where the modules between them lie.
 ghost use Rattle.std.specs.Prelude.{◌≡◌, true, false, IfOk, IfErr};
+ghost use Rattle.places.specs.Corners.{bad_corner, bad_corners};
 
-use crate::coordinate::Coordinate;
+use crate::coordinate::{Coordinate, bad_coordinate};
 use crate::{Axes, Axis};
 use points::{Point, Quad};
 use refusals::Refusal;
+
+/// Refusal 8 for one corner.
+fn bad_corner(point: Point) -> bool
+    ensures { result ≡ bad_corner point }
+{
+    bad_coordinate(point.x) | bad_coordinate(point.y)
+}
+
+/// Refusal 8. All eight coordinates are tested, with no early exit from one to the next, so that the compiler can test several at once.
+fn bad_corners(quad: Quad) -> bool
+    ensures { result ≡ bad_corners quad }
+{
+    bad_corner(quad.q0) | bad_corner(quad.q1) | bad_corner(quad.q2) | bad_corner(quad.q3)
+}
 
 /// A corner that refusal 8 lets through.
 #[derive(Clone, Copy, Debug, PartialEq)]
@@ -14,16 +29,17 @@ struct Corner {
 }
 
 impl Corner {
-    ghost use Rattle.places.specs.Corners.{bad_corner, corner_outside};
+    ghost use Rattle.places.specs.Corners.{corner_outside};
     ghost use Rattle.places.specs.Checked.{point_of};
 
-    fn new(point: Point) -> Result<Corner, Refusal>
-        ensures ok { IfOk result (λ c. (point_of c ≡ point) × (bad_corner point ≡ false)) }
-        ensures refused { IfErr result (λ e. (e ≡ Refusal.Corner) × (bad_corner point ≡ true)) }
+    /// The corner at a point that was tested.
+    fn new(point: Point) -> Corner
+        requires { bad_corner point ≡ false }
+        ensures { point_of result ≡ point }
     {
-        let x = Coordinate::new(point.x)?;
-        let y = Coordinate::new(point.y)?;
-        Ok(Corner { x, y })
+        let x = Coordinate::new(point.x).unwrap();
+        let y = Coordinate::new(point.y).unwrap();
+        Corner { x, y }
     }
 
     fn is_outside(self, width: usize, height: usize) -> bool
@@ -43,7 +59,7 @@ pub struct Corners {
 }
 
 impl Corners {
-    ghost use Rattle.places.specs.Corners.{bad_corners, corners_outside};
+    ghost use Rattle.places.specs.Corners.{corners_outside};
     ghost use Rattle.places.specs.Place.{axes_of};
     ghost use Rattle.places.specs.Checked.{quad_of};
 
@@ -52,10 +68,13 @@ impl Corners {
         ensures ok { IfOk result (λ c. (quad_of c ≡ quad) × (bad_corners quad ≡ false)) }
         ensures refused { IfErr result (λ e. (e ≡ Refusal.Corner) × (bad_corners quad ≡ true)) }
     {
-        let q0 = Corner::new(quad.q0)?;
-        let q1 = Corner::new(quad.q1)?;
-        let q2 = Corner::new(quad.q2)?;
-        let q3 = Corner::new(quad.q3)?;
+        if bad_corners(quad) {
+            return Err(Refusal::Corner);
+        }
+        let q0 = Corner::new(quad.q0);
+        let q1 = Corner::new(quad.q1);
+        let q2 = Corner::new(quad.q2);
+        let q3 = Corner::new(quad.q3);
         Ok(Corners { q0, q1, q2, q3 })
     }
 

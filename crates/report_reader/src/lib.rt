@@ -2,8 +2,12 @@
 #![tactic(auto)]
 
 ghost use Rattle.std.specs.Prelude.{◌≡◌, true, false, ◌&&◌, ◌+◌, ◌*◌, ◌≤◌, ◌<◌, leb, ltb, length, get_or, IfSome, IfNone};
+ghost use Rattle.std.specs.Float.{binary32};
+ghost use Rattle.std.specs.Float.Ieee.{of_bits};
 ghost use Rattle.std.specs.Int.{from_bool};
 ghost use Rattle.points.specs.Numbers.{quad_size};
+ghost use Rattle.places.specs.Rounding.{bad_coordinate};
+ghost use Rattle.places.specs.Corners.{bad_corner, bad_corners};
 ghost use Rattle.reader.specs.Answer.{paper_reading};
 ghost use Rattle.listing.specs.Listing.{row_size, most_quads};
 ghost use Rattle.report.specs.Reading.{row_refusal};
@@ -15,7 +19,6 @@ use listing::MOST_IDS;
 use points::{Point, Quad};
 use reader::Reading;
 use report::{Met, REFUSED_MAP};
-use std::num::f32_from_bits_with_nan;
 
 /// The number of the two bytes at a place, low byte first. Fields are read by their places, since a field's place hangs on the bits before it.
 pub fn two_bytes(bytes: &[u8], at: usize) -> usize
@@ -33,17 +36,43 @@ fn pattern_at(bytes: &[u8], at: usize) -> u32
     u32::from_le_bytes([bytes[at], bytes[at + 1], bytes[at + 2], bytes[at + 3]])
 }
 
-/// The number whose bits are the four bytes at a place.
-fn float_at(bytes: &[u8], at: usize) -> f32
-    requires { at + 4 ≤ length bytes.now }
-    ensures { result ≡ float_in at bytes.now }
+/// Refusal 8 for a coordinate's bit pattern: an exponent of 14 or more.
+fn bad_pattern(pattern: u32) -> bool
+    ensures { result ≡ bad_coordinate (of_bits binary32 pattern) }
 {
-    f32_from_bits_with_nan(pattern_at(bytes, at))
+    141 <= pattern % 0x8000_0000 / 0x80_0000
 }
 
-/// The corner at a place.
-fn point_at(bytes: &[u8], at: usize) -> Point
+/// Refusal 8 for the corner at a place.
+fn bad_point(bytes: &[u8], at: usize) -> bool
     requires { at + 8 ≤ length bytes.now }
+    ensures { result ≡ bad_corner (point_in at bytes.now) }
+{
+    bad_pattern(pattern_at(bytes, at)) | bad_pattern(pattern_at(bytes, at + 4))
+}
+
+/// Refusal 8 for the corners at a place, by their bit patterns: as floats they would each be tested for a NaN first.
+fn bad_quad(bytes: &[u8], at: usize) -> bool
+    requires { at + 32 ≤ length bytes.now }
+    ensures { result ≡ bad_corners (quad_in at bytes.now) }
+{
+    bad_point(bytes, at)
+        | bad_point(bytes, at + 8)
+        | bad_point(bytes, at + 16)
+        | bad_point(bytes, at + 24)
+}
+
+/// The number whose bits are the four bytes at a place, which refusal 8 lets through.
+fn float_at(bytes: &[u8], at: usize) -> f32
+    requires { (at + 4 ≤ length bytes.now) × (bad_coordinate (float_in at bytes.now) ≡ false) }
+    ensures { result ≡ float_in at bytes.now }
+{
+    f32::from_bits(pattern_at(bytes, at))
+}
+
+/// The corner at a place, which refusal 8 lets through.
+fn point_at(bytes: &[u8], at: usize) -> Point
+    requires { (at + 8 ≤ length bytes.now) × (bad_corner (point_in at bytes.now) ≡ false) }
     ensures { result ≡ point_in at bytes.now }
 {
     Point {
@@ -52,9 +81,9 @@ fn point_at(bytes: &[u8], at: usize) -> Point
     }
 }
 
-/// The corners at a place.
+/// The corners at a place, which refusal 8 lets through.
 fn quad_at(bytes: &[u8], at: usize) -> Quad
-    requires { at + 32 ≤ length bytes.now }
+    requires { (at + 32 ≤ length bytes.now) × (bad_corners (quad_in at bytes.now) ≡ false) }
     ensures { result ≡ quad_in at bytes.now }
 {
     Quad {
@@ -120,16 +149,15 @@ fn read_tag(bytes: &[u8]) -> Option<Reading>
     if bytes.len() < head.corners + 32 {
         return None;
     }
-    let corners = quad_at(bytes, head.corners);
     if bytes[0] == report::tag_map(head.turn, head.differing)
         && good_numbers(head.id, head.turn, head.differing)
-        && places::Corners::new(corners).is_ok()
+        && !bad_quad(bytes, head.corners)
     {
         return Some(Reading::Tag {
             id: head.id,
             turn: head.turn,
             differing: head.differing,
-            corners,
+            corners: quad_at(bytes, head.corners),
         });
     }
     None
@@ -149,6 +177,24 @@ fn read_row(bytes: &[u8]) -> Option<Reading>
     }
     let n = bytes[1];
     report::is_row_refusal(n as u64).then_some(Reading::Refused(n))
+}
+
+/// The row that the bytes begin with, which may stand in a reading. It tests nothing, and is called where `read_row` has tested the bytes
+/// before: where both passes test, a report takes twice as long.
+fn reading_of(bytes: &[u8]) -> Reading
+    requires { bytes_stand bytes.now ≡ true }
+    ensures { paper_reading result ≡ row_in bytes.now }
+{
+    if bytes[0] == REFUSED_MAP {
+        return Reading::Refused(bytes[1]);
+    }
+    let head = head_of(bytes);
+    Reading::Tag {
+        id: head.id,
+        turn: head.turn,
+        differing: head.differing,
+        corners: quad_at(bytes, head.corners),
+    }
 }
 
 /// The first pass, over the rows that the first two bytes tell, at most 1,024: reads every row, meets its id, and finds its end, which for
@@ -181,7 +227,7 @@ pub fn put_rows(report: &[u8], count: usize, rows: &mut [u64], corners: &mut [f3
     // Rows differ in length: the end of each is where the next one begins.
     let mut at = 2;
     for q in 0..count {
-        let row = read_row(&report[at..]).unwrap();
+        let row = reading_of(&report[at..]);
         listing::put_row(rows, q, row);
         listing::put_corners(corners, q, row);
         at += report::row_size(row);

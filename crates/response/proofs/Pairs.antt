@@ -48,6 +48,10 @@ module _ {ℓ} {A : Type ℓ} where
         let m : length (drop n pair) ≡ n = omega (arith, length-drop n pair, r.whole) in
         sym (take-append-drop n pair) ∙ ap₂ ◌++◌ (rw e at r.upper) (written_all g x n (drop n pair) m e r.lower)
 
+-- the rows y and y + 1 end where row y + 2 starts
+pub two_rows : (w y : ℕ) → y * w + w + w ≡ (y + 2) * w
+two_rows w y = omega (arith, next_row w y, next_row w (y + 1), (let e : y + 1 + 1 ≡ y + 2 = omega arith in ap (λ (k : ℕ). k * w) e))
+
 -- the rows from y on and before z are written
 pub rows_between : (f : ℕ → Float) (w h y z : ℕ) (out rows : List Float) → y ≤ z → z ≤ h → rows ≡ tabulate (length (take (z * w - y * w) (drop (y * w) out))) (λ p. f (y * w + p))
     → Filled f (w * h) (y * w) out → Filled f (w * h) (z * w) (back out (y * w) (z * w - y * w) rows)

@@ -89,23 +89,11 @@ fn inner_pair(pair: &mut [f32], img: &Plane, y: usize)
     );
 }
 
-/// The rows from `y` on and before `next`, of which there are one or two, and none is the first or the last of the response.
-fn inner_rows(rows: &mut [f32], img: &Plane, y: usize, next: usize)
-    requires sides { (0 < y) × (y < next) × (next ≤ y + 2) × (next < img.now.shape.height) }
-    requires whole { y * img.now.shape.width + length rows.old ≡ next * img.now.shape.width }
-    ensures { rows.new ≡ tabulate (length rows.old) (λ p. response_at img.now.samples.now img.now.shape.width img.now.shape.height (y * img.now.shape.width + p)) }
-{
-    if y + 1 < next {
-        inner_pair(rows, img, y);
-    } else {
-        inner_row(rows, img, y);
-    }
-}
-
 /// The response of a plane into `out`. The rows off the border are written two at a time, and one that is left over by itself. The
 /// first and the last row are written outside of the loop. So every row that the loop could read lies in the plane, and the
 /// compiler's test for overlap, which goes by those rows, does not keep the vector instructions from planes that stand side by side
-/// in memory.
+/// in memory. The row that is left over is written outside of it too, so that a plane with no two rows off the border goes without
+/// that test, which would be a third of its time.
 #[tactic(auto, using(lists::proofs::Rows::row_fits))]
 pub fn hessian_response(img: &Plane, out: &mut [f32])
     requires { (0 < img.now.shape.height) × (length out.old ≡ length img.now.samples.now) }
@@ -113,10 +101,14 @@ pub fn hessian_response(img: &Plane, out: &mut [f32])
 {
     let width = img.shape.width;
     let last = img.shape.height - 1;
+    let inner = last.saturating_sub(1);
     out[0..width].fill(0.0);
-    for y in (1..last).step_by(2) {
-        let next = last.min(y + 2);
-        inner_rows(&mut out[y * width..next * width], img, y, next);
+    for pair in 0..inner / 2 {
+        let y = 2 * pair + 1;
+        inner_pair(&mut out[y * width..(y + 2) * width], img, y);
+    }
+    if inner % 2 == 1 {
+        inner_row(&mut out[inner * width..last * width], img, inner);
     }
     out[last * width..].fill(0.0);
 }

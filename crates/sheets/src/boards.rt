@@ -43,13 +43,16 @@ impl Board<'_> {
         }
     }
 
-    /// Paints it into the first bytes of `plane`, only to see whether it is refused.
+    /// Paints it into the first bytes of `plane`, only to see whether it is refused. Neither this nor the next is inlined, so that their
+    /// arrays lie on the stack only while they run.
+    #[inline(never)]
     pub fn try_paint(&self, plane: &mut [u8]) -> Result<(), Refusal> {
         let mut room = [9.0f32; 8200];
         self.paint(self.tag.own_plane(plane), &mut room)
     }
 
     /// Paints it into the first bytes of `plane`, and counts the readings of its tags and whether the numbers behind the quads are left.
+    #[inline(never)]
     pub fn paint_and_count(&self, plane: &mut [u8], tally: &mut Tally) {
         let mut room = [9.0f32; 8200];
         let plane = self.tag.own_plane(plane);

@@ -1,12 +1,14 @@
 //! The whole sheets of a table: its grids, and the lines that are printed of them.
+ghost use Rattle.std.specs.Prelude.{◌≤◌};
+
 use crate::boards::{Board, tags_of};
 use crate::tags::{Misprint, Tag};
 use crate::tried::{Sides, Tried};
 use grid::Grid;
 use refusals::packed_frame;
 use std::io;
-use vectors::Tally;
 use vectors::answers::number_of;
+use vectors::{Tally, product};
 
 /// The grids of every table: four have a side of 0 or 33 tags, and others more tags than the table has codes.
 fn sides() -> [Sides; 9] {
@@ -40,11 +42,11 @@ const SPACINGS: [Spacing; 5] = [
 ];
 
 /// So many tags in a line of the grid, in pixels.
-fn length(side: usize, gap: usize, cell: usize, count: usize) -> usize {
-    side.saturating_add(gap)
-        .saturating_mul(count)
-        .saturating_sub(gap)
-        .saturating_mul(cell)
+fn length(side: usize, gap: usize, cell: usize, count: usize) -> usize
+    ensures { result ≤ 4000 }
+{
+    let cells = product(side.saturating_add(gap), count, 4000);
+    product(cells.saturating_sub(gap), cell, 4000)
 }
 
 impl Sides {
@@ -71,7 +73,7 @@ impl Sides {
         let y = p / 2 % 2;
         let wide = length(side, gap, cell, self.columns);
         let high = length(side, gap, cell, self.rows);
-        let frame = packed_frame(wide.saturating_add(x + 1), high.saturating_add(y + 1));
+        let frame = packed_frame(x + wide + 1, y + high + 1);
         Board {
             grid,
             tag: tag.placed(x, y, frame),

@@ -73,22 +73,23 @@ impl Starts {
         tally
     }
 
-    /// Reads the list, and prints how many of its rows are right, or the refusal's number.
+    /// Prints the list, and then reads it and prints how many of its rows are right, or the refusal's number.
     fn read(self, rt: &impl Print, shown: &Shown) -> io::Result<()> {
         let mut quads = [0.0f32; 8200];
         let mut rows = [9u64; 4100];
         let mut corners = [9.0f32; 8200];
         let quads = &mut quads[..QUAD_SIZE * self.count.min(1025)];
         self.put(shown, quads);
+        print!(rt; "{self}")?;
         let listed = shown
             .tag
             .read_list(shown.plane, quads, &mut rows, &mut corners);
         match listed {
             Ok(count) => {
                 let tally = Starts { count, ..self }.count_rows(shown, &rows, &corners);
-                println!(rt; "{self}: {tally}")
+                println!(rt; ": {tally}")
             }
-            Err(refusal) => println!(rt; "{self} refused by {}", refusal.number()),
+            Err(refusal) => println!(rt; " refused by {}", refusal.number()),
         }
     }
 }

@@ -41,9 +41,9 @@ fn print(rt: &impl Print, table: &Tried, plane: &mut [u8]) -> io::Result<()> {
 }
 
 fn main(rt: HostRuntime) -> io::Result<()> {
-    let mut plane = vec![in rt.alloc(); 0u8; LARGEST_PLANE]?;
+    let mut plane = [0u8; LARGEST_PLANE];
     for table in tried::tables() {
-        print(&rt, &table, plane.as_mut_slice())?;
+        print(&rt, &table, &mut plane)?;
     }
     Ok(())
 }

@@ -1,5 +1,5 @@
 //! The frames of a file: each stands behind two bytes of its length.
-ghost use Rattle.std.specs.Prelude.{◌-◌, length};
+ghost use Rattle.std.specs.Prelude.{◌-◌, ◌≤◌, length};
 ghost use Rattle.std.specs.Iterator.{at_most};
 
 use crate::fields::Fields;
@@ -22,11 +22,12 @@ pub struct Frame<'a> {
     pub bytes: &'a [u8],
 }
 
-/// The frames of a file, one after another. The last one may be cut off.
+/// The frames of a file, one after another. The last one may be cut off: where it ends is never past the end of the file.
 #[derive(Drop)]
 pub struct Frames<'a> {
     file: &'a [u8],
     at: usize,
+    ghost inside: { at ≤ length file.now },
 }
 
 impl<'a> Frames<'a> {
@@ -48,7 +49,7 @@ impl<'a> Iterator for Frames<'a> {
         let mut fields = Fields::new(&self.file[at..]);
         let size = usize::from(fields.u16());
         let bytes = fields.take(size);
-        self.at = at + 2 + bytes.len();
+        self.at = (at + 2 + bytes.len()).min(self.file.len());
         Some(Frame { at, bytes })
     }
 }

@@ -1,4 +1,4 @@
-//! What the programs that replay vectors share: the frames of a file and their fields, the count of what is alike, the generator of
+//! What the programs that replay vectors share: files of frames, the frames and their fields, the count of what is alike, the generator of
 //! numbers and the digest. tools/oracle/README.md has the formats. Buffers are arrays as large as any frame needs: on the heap each would bring
 //! an allocator and a `?` into functions that cannot fail.
 #![tactic(auto)]
@@ -6,6 +6,7 @@
 pub mod answers;
 pub mod digest;
 pub mod fields;
+pub mod files;
 pub mod floats;
 pub mod frames;
 pub mod tally;
@@ -13,6 +14,7 @@ pub mod tally;
 ghost use Rattle.std.specs.Prelude.{◌≡◌, ◌≤◌};
 
 pub use fields::Fields;
+pub use files::{large_buffer, load, report};
 pub use tally::{Tally, replay};
 
 /// a times b, as the samples of a plane, but at most `most`.

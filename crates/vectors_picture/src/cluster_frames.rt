@@ -109,6 +109,8 @@ fn is_center_alike(mut fields: Fields) -> bool {
     }
 }
 
+/// Whether the entries answer what a frame says. It is not inlined, so that the arrays of its kinds lie on the stack only while it runs.
+#[inline(never)]
 pub fn is_alike(frame: &[u8]) -> Result<bool, UnknownKind> {
     let mut fields = Fields::new(frame);
     Ok(match Kind::try_from(fields.u8())? {

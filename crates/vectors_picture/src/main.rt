@@ -5,21 +5,20 @@
 mod cluster_frames;
 mod planes;
 
-use std::rt::Files;
-use std::{fs, io};
+use std::io;
 use vectors::replay;
 
 fn main(rt: HostRuntime) -> io::Result<()> {
-    for name in ["blur", "response", "threshold", "refusals"] {
-        let file = fs::read(&rt, name)?;
-        println!(rt; "{name} {}", replay(file.as_slice(), planes::is_alike))?;
+    let mut buffer = vectors::large_buffer();
+    for name in [b"blur".as_slice(), b"response", b"threshold", b"refusals"] {
+        let count = vectors::load(&rt, name, &mut buffer)?;
+        let tally = replay(&buffer[..count], planes::is_alike);
+        vectors::report(&rt, name, tally)?;
     }
-    for name in ["clusters", "center", "cluster_refusals"] {
-        let file = fs::read(&rt, name)?;
-        println!(rt;
-            "{name} {}",
-            replay(file.as_slice(), cluster_frames::is_alike)
-        )?;
+    for name in [b"clusters".as_slice(), b"center", b"cluster_refusals"] {
+        let count = vectors::load(&rt, name, &mut buffer)?;
+        let tally = replay(&buffer[..count], cluster_frames::is_alike);
+        vectors::report(&rt, name, tally)?;
     }
     Ok(())
 }

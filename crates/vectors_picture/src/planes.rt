@@ -77,15 +77,13 @@ enum Entry {
     Threshold,
 }
 
-impl TryFrom<u8> for Entry {
-    type Error = UnknownKind;
-
-    fn try_from(number: u8) -> Result<Self, UnknownKind> {
+impl From<u8> for Entry {
+    /// Each number has an entry: all but 0 and 1 are the threshold's.
+    fn from(number: u8) -> Self {
         match number {
-            0 => Ok(Entry::Blur),
-            1 => Ok(Entry::Response),
-            2 => Ok(Entry::Threshold),
-            _ => Err(UnknownKind(number)),
+            0 => Entry::Blur,
+            1 => Entry::Response,
+            _ => Entry::Threshold,
         }
     }
 }
@@ -180,7 +178,9 @@ struct Call<'a> {
 
 impl<'a> Call<'a> {
     /// A blur has the sides, the number of weights, and then the weights.
-    fn blur(form: Form, mut fields: Fields<'a>) -> Self {
+    fn blur(form: Form, mut fields: Fields<'a>) -> Self
+        ensures { (result.img ≤ 4100) × ((result.weights ≤ 20) × ((result.temp ≤ 4100) × (result.out ≤ 4100))) }
+    {
         let shape = small_shape(&mut fields);
         let n = count(shape);
         let weights = usize::from(fields.u8()).min(16);
@@ -198,7 +198,9 @@ impl<'a> Call<'a> {
     }
 
     /// A response has no weights, and no plane between.
-    fn response(form: Form, mut fields: Fields<'a>) -> Self {
+    fn response(form: Form, mut fields: Fields<'a>) -> Self
+        ensures { (result.img ≤ 4100) × ((result.weights ≤ 20) × ((result.temp ≤ 4100) × (result.out ≤ 4100))) }
+    {
         let shape = small_shape(&mut fields);
         let n = count(shape);
         Call {
@@ -215,30 +217,34 @@ impl<'a> Call<'a> {
     }
 
     /// A call of any entry, of which the frame says the number that it answers.
-    fn number(mut fields: Fields<'a>) -> Result<Self, UnknownKind> {
-        Ok(Call {
-            entry: Entry::try_from(fields.u8())?,
+    fn number(mut fields: Fields<'a>) -> Self
+        ensures { (result.img ≤ 4100) × ((result.weights ≤ 20) × ((result.temp ≤ 4100) × (result.out ≤ 4100))) }
+    {
+        Call {
+            entry: Entry::from(fields.u8()),
             shape: wide_shape(&mut fields),
             says: Says::Number(fields.u8()),
-            img: fields.u32() as usize,
+            img: (fields.u32() as usize).min(LONGEST_PLANE),
             picture: Samples::but_one(&mut fields),
-            weights: fields.u32() as usize,
+            weights: (fields.u32() as usize).min(MOST_WEIGHTS),
             kernel: Samples::but_one(&mut fields),
-            temp: fields.u32() as usize,
-            out: fields.u32() as usize,
-        })
+            temp: (fields.u32() as usize).min(LONGEST_PLANE),
+            out: (fields.u32() as usize).min(LONGEST_PLANE),
+        }
     }
 
     /// Whether the call leaves what the frame says.
-    fn is_alike(self) -> bool {
+    fn is_alike(self) -> bool
+        requires { (self.img ≤ 4100) × ((self.weights ≤ 20) × ((self.temp ≤ 4100) × (self.out ≤ 4100))) }
+    {
         let mut img = [0.0f32; LONGEST_PLANE];
         let mut weights = [0.0f32; MOST_WEIGHTS];
         let mut temp = [0.0f32; LONGEST_PLANE];
         let mut out = [0.0f32; LONGEST_PLANE];
-        let img = &mut img[..self.img.min(LONGEST_PLANE)];
-        let weights = &mut weights[..self.weights.min(MOST_WEIGHTS)];
-        let temp = &mut temp[..self.temp.min(LONGEST_PLANE)];
-        let out = &mut out[..self.out.min(LONGEST_PLANE)];
+        let img = &mut img[..self.img];
+        let weights = &mut weights[..self.weights];
+        let temp = &mut temp[..self.temp];
+        let out = &mut out[..self.out];
         self.picture.fill(img);
         self.kernel.fill(weights);
         let number = self.entry.call(img, self.shape, weights, temp, out);
@@ -256,12 +262,14 @@ fn is_threshold_alike(mut fields: Fields) -> bool {
     response_threshold(plane, shape).is_ok_and(|lowest| pattern_of(lowest) == said)
 }
 
+/// Whether the entries answer what a frame says. It is not inlined, so that the arrays of its kinds lie on the stack only while it runs.
+#[inline(never)]
 pub fn is_alike(frame: &[u8]) -> Result<bool, UnknownKind> {
     let mut fields = Fields::new(frame);
     Ok(match Kind::try_from(fields.u8())? {
         Kind::Blur(form) => Call::blur(form, fields).is_alike(),
         Kind::Response(form) => Call::response(form, fields).is_alike(),
         Kind::Threshold => is_threshold_alike(fields),
-        Kind::Number => Call::number(fields)?.is_alike(),
+        Kind::Number => Call::number(fields).is_alike(),
     })
 }

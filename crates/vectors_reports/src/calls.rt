@@ -79,17 +79,20 @@ pub struct Outcome {
 }
 
 impl Outcome {
-    /// What a frame says of a call: 0 or the refusal, the count and the digest, both 0 where the call is refused.
-    pub fn read(fields: &mut Fields) -> Self {
+    /// What a frame says of a call: 0 or the refusal, the count and the digest. Both are 0 where the call is refused: with others behind
+    /// a refusal a frame says what no call answers.
+    pub fn read(fields: &mut Fields) -> Option<Self> {
         let number = fields.u8();
         let output = Output {
             count: usize::from(fields.u16()),
             digest: fields.u64(),
         };
-        Outcome {
-            output: if number == 0 { Ok(output) } else { Err(number) },
-            kept: true,
-        }
+        let output = match number {
+            0 => Ok(output),
+            _ if output == Output::default() => Err(number),
+            _ => return None,
+        };
+        Some(Outcome { output, kept: true })
     }
 
     /// What a call answered, and what was seen of its outputs.

@@ -15,7 +15,7 @@ struct Damage {
 }
 
 impl Damage {
-    /// The report afterwards, at the front, and its length.
+    /// The report afterwards, at the front, and its length. At most 126 bytes stand behind the byte.
     fn damaged(self, report: &[u8]) -> ([u8; 128], usize)
         ensures { result.1 ≤ 128 }
     {
@@ -23,7 +23,7 @@ impl Damage {
         let mut fields = Fields::new(report);
         let before = fields.take(self.place);
         fields.take(self.skipped);
-        let after = fields.rest();
+        let after = fields.take(126);
         let bytes = before
             .iter()
             .copied()
@@ -95,5 +95,5 @@ fn read_all(skipped: usize, report: &[u8]) -> Outcome {
 pub fn is_alike(mut fields: Fields) -> bool {
     let expected = Outcome::read(&mut fields);
     let skipped = usize::from(fields.u8());
-    read_all(skipped, fields.rest()) == expected
+    Some(read_all(skipped, fields.rest())) == expected
 }

@@ -29,7 +29,7 @@ fn are_levels_alike(mut fields: Fields) -> bool {
     let band = fields.u8();
     let allowed = fields.u32();
     let said = fields.word();
-    bit_code(fields.rest(), band, allowed).map_err(Refusal::number) == said
+    Some(bit_code(fields.rest(), band, allowed).map_err(Refusal::number)) == said
 }
 
 /// The level `by` above 30 below `middle`, within 0 to 255.

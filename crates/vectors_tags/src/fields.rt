@@ -7,8 +7,9 @@ use vectors::Fields;
 
 /// What is read from a frame here, beside what the library reads.
 pub trait TagFields {
-    /// What a call answers that gives a word: 0 and the word, or a refusal's number and eight bytes of nothing.
-    fn word(&mut self) -> Result<u64, u8>;
+    /// What a call answers that gives a word: 0 and the word, or a refusal's number and a word of 0. No call answers a number
+    /// beside another word.
+    fn word(&mut self) -> Option<Result<u64, u8>>;
 
     /// A frame in three numbers of eight bytes.
     fn frame(&mut self) -> Frame;
@@ -27,10 +28,11 @@ pub trait TagFields {
 }
 
 impl TagFields for Fields<'_> {
-    fn word(&mut self) -> Result<u64, u8> {
+    fn word(&mut self) -> Option<Result<u64, u8>> {
         match (self.u8(), self.u64()) {
-            (0, word) => Ok(word),
-            (number, _) => Err(number),
+            (0, word) => Some(Ok(word)),
+            (number, 0) => Some(Err(number)),
+            _ => None,
         }
     }
 

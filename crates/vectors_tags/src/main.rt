@@ -15,10 +15,10 @@ mod words;
 
 use padded::Layout;
 use quads::Lent;
+use std::io;
 use std::rt::Files;
-use std::{fs, io};
 use vectors::frames::{Frames, UnknownKind};
-use vectors::{Fields, Tally};
+use vectors::{Fields, Tally, large_buffer, load, report};
 
 /// What the frames of a file are about.
 #[derive(Clone, Copy, Debug, PartialEq, Eq)]
@@ -36,7 +36,7 @@ impl Flow {
             Flow::Words => words::is_alike(frame, lent.frame),
             Flow::Levels => bit_codes::is_alike(frame),
             Flow::Quads => quads::is_alike(frame, lent),
-            Flow::Painter => paintings::is_alike(frame, lent.layout),
+            Flow::Painter => Ok(paintings::is_alike(frame, lent.layout)),
         }
     }
 
@@ -58,57 +58,59 @@ impl Flow {
 }
 
 /// The files, in the order in which they are replayed.
-const FILES: [(Flow, &str); 19] = [
-    (Flow::Words, "rotate_bits"),
-    (Flow::Words, "t16h5"),
-    (Flow::Words, "t25h7"),
-    (Flow::Words, "t25h9"),
-    (Flow::Words, "t36h11"),
-    (Flow::Words, "t36h11b1"),
-    (Flow::Words, "lent"),
-    (Flow::Words, "limits"),
-    (Flow::Words, "likeness"),
-    (Flow::Words, "compared"),
-    (Flow::Levels, "bit_code"),
-    (Flow::Quads, "corners"),
-    (Flow::Quads, "readings"),
-    (Flow::Quads, "lists"),
-    (Flow::Quads, "refusals"),
-    (Flow::Quads, "light"),
-    (Flow::Painter, "paintings"),
-    (Flow::Painter, "prints"),
-    (Flow::Painter, "sheets"),
+const FILES: [(Flow, &[u8]); 19] = [
+    (Flow::Words, b"rotate_bits"),
+    (Flow::Words, b"t16h5"),
+    (Flow::Words, b"t25h7"),
+    (Flow::Words, b"t25h9"),
+    (Flow::Words, b"t36h11"),
+    (Flow::Words, b"t36h11b1"),
+    (Flow::Words, b"lent"),
+    (Flow::Words, b"limits"),
+    (Flow::Words, b"likeness"),
+    (Flow::Words, b"compared"),
+    (Flow::Levels, b"bit_code"),
+    (Flow::Quads, b"corners"),
+    (Flow::Quads, b"readings"),
+    (Flow::Quads, b"lists"),
+    (Flow::Quads, b"refusals"),
+    (Flow::Quads, b"light"),
+    (Flow::Painter, b"paintings"),
+    (Flow::Painter, b"prints"),
+    (Flow::Painter, b"sheets"),
 ];
 
 /// Those that have pictures, which are replayed with filler too.
-const PICTURES: [(Flow, &str); 6] = [
-    (Flow::Quads, "readings"),
-    (Flow::Quads, "lists"),
-    (Flow::Quads, "light"),
-    (Flow::Painter, "paintings"),
-    (Flow::Painter, "prints"),
-    (Flow::Painter, "sheets"),
+const PICTURES: [(Flow, &[u8]); 6] = [
+    (Flow::Quads, b"readings"),
+    (Flow::Quads, b"lists"),
+    (Flow::Quads, b"light"),
+    (Flow::Painter, b"paintings"),
+    (Flow::Painter, b"prints"),
+    (Flow::Painter, b"sheets"),
 ];
 
-fn replay_files<R: Files + Alloc + Print>(
+/// Replays the files one after another, each read into `buffer`.
+fn replay_files<R: Files + Print>(
     rt: &R,
-    files: &[(Flow, &str)],
+    files: &[(Flow, &[u8])],
     layout: Layout,
+    buffer: &mut [u8],
 ) -> io::Result<()> {
     for (flow, name) in files {
-        let file = fs::read(rt, *name)?;
-        let tally = flow.replay(file.as_slice(), layout);
-        println!(rt; "{name} {tally}")?;
+        let size = load(rt, name, buffer)?;
+        report(rt, name, flow.replay(&buffer[..size], layout))?;
     }
     Ok(())
 }
 
 fn main(rt: HostRuntime) -> io::Result<()> {
-    replay_files(&rt, &FILES, Layout::Packed)?;
+    let mut buffer = large_buffer();
+    replay_files(&rt, &FILES, Layout::Packed, &mut buffer)?;
     for layout in [Layout::Zero, Layout::Full, Layout::Noise, Layout::NextLine] {
         // What is not packed, or has no room so, is replayed as it is and counted too.
         println!(rt; "packed planes again at pitch {layout}:")?;
-        replay_files(&rt, &PICTURES, layout)?;
+        replay_files(&rt, &PICTURES, layout, &mut buffer)?;
     }
     Ok(())
 }

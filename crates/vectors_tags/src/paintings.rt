@@ -7,7 +7,6 @@ use crate::{padded, sheets};
 use muosleap_paint::painting::{paint_tag, paint_tag_in};
 use refusals::Frame;
 use vectors::answers::Corners;
-use vectors::frames::UnknownKind;
 use vectors::{Fields, product};
 
 /// What is painted and then looked at.
@@ -24,16 +23,14 @@ enum Kind {
     Print,
 }
 
-impl TryFrom<u8> for Kind {
-    type Error = UnknownKind;
-
-    fn try_from(number: u8) -> Result<Self, UnknownKind> {
+impl From<u8> for Kind {
+    /// 4 is a sheet by the number of a family, and so is every other number.
+    fn from(number: u8) -> Self {
         match number {
-            1 => Ok(Kind::Painting(Painting::Tag)),
-            2 => Ok(Kind::Print),
-            3 => Ok(Kind::Painting(Painting::Sheet(Codes::Lent))),
-            4 => Ok(Kind::Painting(Painting::Sheet(Codes::OfFamily))),
-            _ => Err(UnknownKind(number)),
+            1 => Kind::Painting(Painting::Tag),
+            2 => Kind::Print,
+            3 => Kind::Painting(Painting::Sheet(Codes::Lent)),
+            _ => Kind::Painting(Painting::Sheet(Codes::OfFamily)),
         }
     }
 }
@@ -114,10 +111,10 @@ fn is_print_alike(mut fields: Fields, layout: Layout) -> bool {
     picture.are_starts_alike(quad, fields)
 }
 
-pub fn is_alike(record: &[u8], layout: Layout) -> Result<bool, UnknownKind> {
+pub fn is_alike(record: &[u8], layout: Layout) -> bool {
     let mut fields = Fields::new(record);
-    Ok(match Kind::try_from(fields.u8())? {
+    match Kind::from(fields.u8()) {
         Kind::Painting(painting) => painting.is_alike(fields, layout),
         Kind::Print => is_print_alike(fields, layout),
-    })
+    }
 }

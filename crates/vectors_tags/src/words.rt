@@ -1,4 +1,6 @@
 //! Frames of words: a turn, searches of the table that was lent, and that table held against a family or tried for likeness.
+ghost use Rattle.std.specs.Prelude.{◌<◌};
+
 use crate::fields::TagFields;
 use muosleap::detector::{best_tag, check_likeness, rotate_bits};
 use refusals::Refusal;
@@ -9,15 +11,21 @@ use vectors::digest::Digest;
 use vectors::frames::UnknownKind;
 use vectors::{Fields, Generator};
 
+/// What is asked of the table that was lent.
 #[derive(Clone, Copy, Debug, PartialEq, Eq)]
-enum Kind {
+enum Question {
     Search,
     Digest,
-    Turn,
     Family,
     Likeness,
     CountedSearch,
     CountedDigest,
+}
+
+#[derive(Clone, Copy, Debug, PartialEq, Eq)]
+enum Kind {
+    Turn,
+    Table(Question),
 }
 
 impl TryFrom<u8> for Kind {
@@ -25,13 +33,13 @@ impl TryFrom<u8> for Kind {
 
     fn try_from(number: u8) -> Result<Self, UnknownKind> {
         match number {
-            1 => Ok(Kind::Search),
-            2 => Ok(Kind::Digest),
+            1 => Ok(Kind::Table(Question::Search)),
+            2 => Ok(Kind::Table(Question::Digest)),
             3 => Ok(Kind::Turn),
-            4 => Ok(Kind::Family),
-            5 => Ok(Kind::Likeness),
-            6 => Ok(Kind::CountedSearch),
-            7 => Ok(Kind::CountedDigest),
+            4 => Ok(Kind::Table(Question::Family)),
+            5 => Ok(Kind::Table(Question::Likeness)),
+            6 => Ok(Kind::Table(Question::CountedSearch)),
+            7 => Ok(Kind::Table(Question::CountedDigest)),
             _ => Err(UnknownKind(number)),
         }
     }
@@ -39,7 +47,7 @@ impl TryFrom<u8> for Kind {
 
 fn is_turn_alike(mut fields: Fields) -> bool {
     let edge = fields.u8();
-    rotate_bits(fields.u64(), edge).map_err(Refusal::number) == fields.word()
+    Some(rotate_bits(fields.u64(), edge).map_err(Refusal::number)) == fields.word()
 }
 
 /// The answer of a search, which has no corners, and how many codes were compared, 0 where there is no count.
@@ -76,19 +84,16 @@ enum Rule {
     Numbers,
     /// Each code turned 0, 1, 2 and 3 times.
     Turned,
-    /// Codes turned and damaged by chance.
+    /// Codes turned and damaged by chance: 2, and every other number.
     Damaged,
 }
 
-impl TryFrom<u8> for Rule {
-    type Error = UnknownKind;
-
-    fn try_from(number: u8) -> Result<Self, UnknownKind> {
+impl From<u8> for Rule {
+    fn from(number: u8) -> Self {
         match number {
-            0 => Ok(Rule::Numbers),
-            1 => Ok(Rule::Turned),
-            2 => Ok(Rule::Damaged),
-            _ => Err(UnknownKind(number)),
+            0 => Rule::Numbers,
+            1 => Rule::Turned,
+            _ => Rule::Damaged,
         }
     }
 }
@@ -162,26 +167,36 @@ impl Table<'_> {
         }
     }
 
-    fn is_digest_alike(&self, mut fields: Fields, is_counted: bool) -> Result<bool, UnknownKind> {
-        let rule = Rule::try_from(fields.u8())?;
+    fn is_digest_alike(&self, mut fields: Fields, is_counted: bool) -> bool {
+        let rule = Rule::from(fields.u8());
         let mut generator = Generator(fields.u64());
         let mut digest = Digest::new();
         for k in 0..fields.u32() {
             let bits = self.word(rule, u64::from(k), &mut generator);
             self.search(bits).add_to(&mut digest, is_counted);
         }
-        Ok(digest.value() == fields.u64())
+        digest.value() == fields.u64()
+    }
+
+    /// Whether the codes are those of a family.
+    fn are_codes_of(&self, number: u8) -> bool
+        requires { number < 5 }
+    {
+        let mut codes = self.codes.iter().enumerate();
+        self.codes.len() == tag_families::code_count(number)
+            && codes.all(|(position, code)| *code == tag_families::code(number, position))
     }
 
     /// Whether the family of a number has the table's edge, threshold and codes, and the frame's border.
     fn is_family_alike(&self, mut fields: Fields) -> bool {
-        let Ok(known) = tag_families::table(fields.u8()) else {
+        let number = fields.u8();
+        let Ok(known) = tag_families::table(number) else {
             return false;
         };
         known.family.edge == self.edge
             && known.family.border == fields.u8()
             && known.family.hamming_distance == self.hamming_distance
-            && known.codes == self.codes
+            && self.are_codes_of(number)
     }
 
     /// A frame's threshold and border with the table's edge and codes.
@@ -206,23 +221,33 @@ pub fn codes_in<'a>(s: &[u8], room: &'a mut [u64]) -> &'a [u64] {
     codes
 }
 
-pub fn is_alike(frame: &[u8], lent: &[u8]) -> Result<bool, UnknownKind> {
-    let mut room = [0u64; 1025];
-    let mut lent = Fields::new(lent);
-    lent.u8();
-    let table = Table {
-        edge: lent.u8(),
-        hamming_distance: lent.u8(),
-        codes: codes_in(lent.rest(), &mut room),
-    };
-    let mut fields = Fields::new(frame);
-    match Kind::try_from(fields.u8())? {
-        Kind::Search => Ok(table.is_search_alike(fields)),
-        Kind::Digest => table.is_digest_alike(fields, false),
-        Kind::Turn => Ok(is_turn_alike(fields)),
-        Kind::Family => Ok(table.is_family_alike(fields)),
-        Kind::Likeness => Ok(table.is_likeness_alike(fields)),
-        Kind::CountedSearch => Ok(table.is_counted_search_alike(fields)),
-        Kind::CountedDigest => table.is_digest_alike(fields, true),
+impl Question {
+    /// Asks the table of the frame that was lent.
+    fn is_alike(self, fields: Fields, lent: &[u8]) -> bool {
+        let mut room = [0u64; 1025];
+        let mut lent = Fields::new(lent);
+        lent.u8();
+        let table = Table {
+            edge: lent.u8(),
+            hamming_distance: lent.u8(),
+            codes: codes_in(lent.rest(), &mut room),
+        };
+        match self {
+            Question::Search => table.is_search_alike(fields),
+            Question::Digest => table.is_digest_alike(fields, false),
+            Question::Family => table.is_family_alike(fields),
+            Question::Likeness => table.is_likeness_alike(fields),
+            Question::CountedSearch => table.is_counted_search_alike(fields),
+            Question::CountedDigest => table.is_digest_alike(fields, true),
+        }
     }
+}
+
+/// A turn asks no table, and none is read for it.
+pub fn is_alike(frame: &[u8], lent: &[u8]) -> Result<bool, UnknownKind> {
+    let mut fields = Fields::new(frame);
+    Ok(match Kind::try_from(fields.u8())? {
+        Kind::Turn => is_turn_alike(fields),
+        Kind::Table(question) => question.is_alike(fields, lent),
+    })
 }

@@ -38,7 +38,8 @@ returns c =
     let two = Filled-part f n r r (n - r) (n - r - r) rowOne c.sum_blocks.new.row (omega arith) (omega arith) (omega arith)
     (c.sum_blocks.ensures
     ∙ ap (λ (m : ℕ). sums weights (apart samples 0 1) m (length weights)) (part_length rowOne r (n - r) (n - r - r) (omega (arith, one.whole)) (omega arith))
-    ∙ across_inner samples weights n (n - r - r) (omega arith))
+    ∙ ap (λ (k : ℕ). sums weights (apart samples k 1) (n - r - r) (length weights)) (omega arith)
+    ∙ across_inner samples weights n r (n - r - r) (omega arith) (omega arith))
     one in
     let rowTwo = back rowOne r (n - r - r) c.sum_blocks.new.row in
     let three = Filled-part f n (n - r) (n - r) n r rowTwo c.blur_samples-3.new.part (omega arith) (omega arith) (omega arith)

@@ -17,9 +17,8 @@ use Rattle.report.specs.Bytes.{row_bytes}
 use Rattle.report.specs.Report.{row_in}
 use Rattle.report.specs.Steps.{bytes_stand}
 use Rattle.report.proofs.Same.{part_from}
-use Rattle.report.proofs.Options.{is_some, some_has}
 use Rattle.report_reader.proofs.Put.{row_at, Behind, Behind-first, Next, Behind-next, rows_all, rows_say}
-use Rattle.report_reader.proofs.put_rows.Goals.{After-unwrap-row, After-row_size-at, In-loop-q}
+use Rattle.report_reader.proofs.put_rows.Goals.{After-reading_of-row, After-row_size-at, In-loop-q}
 use Rattle.report_reader.proofs.put_rows.Goals as goal
 
 pub loop-q-init : goal.loop-q-init
@@ -36,15 +35,12 @@ loop-q-init c =
 next : (t : In-loop-q) → Next t.args.report.now t.args.count t.loop-q.q t.loop-q.at
 next t = Behind-next t.args.report.now t.args.count t.loop-q.q t.loop-q.at t.loop-q-test.true t.loop-q.invariant.0
 
--- there is one: its bytes stand
-pub unwrap-row-requires : goal.unwrap-row-requires
-unwrap-row-requires c =
-    is_some c.read_row.result c.read_row.ensures.nothing (ap bytes_stand (part_from c.args.report.now c.loop-q.at) ∙ (next (goal.at.unwrap-row-requires c).In-loop-q).stands)
+pub reading_of-row-requires : goal.reading_of-row-requires
+reading_of-row-requires c = ap bytes_stand (part_from c.args.report.now c.loop-q.at) ∙ (next (goal.at.reading_of-row-requires c).In-loop-q).stands
 
 -- the row that was read is row q
-read_is : (r : After-unwrap-row) → paper_reading r.unwrap-row.result ≡ row_at r.args.report.now r.args.count r.loop-q.q
-read_is r =
-    (some_has _ r.read_row.result r.unwrap-row.ensures r.read_row.ensures.row).1 ∙ ap row_in (part_from r.args.report.now r.loop-q.at) ∙ sym (next (goal.at.After-unwrap-row r).In-loop-q).row
+read_is : (r : After-reading_of-row) → paper_reading r.reading_of-row.result ≡ row_at r.args.report.now r.args.count r.loop-q.q
+read_is r = r.reading_of-row.ensures ∙ ap row_in (part_from r.args.report.now r.loop-q.at) ∙ sym (next (goal.at.After-reading_of-row r).In-loop-q).row
 
 pub put_row-requires : goal.put_row-requires
 put_row-requires c = omega (arith, c.loop-q-test.true, c.loop-q.invariant.3, c.requires.3)
@@ -54,14 +50,14 @@ put_corners-requires c =
     omega (arith, c.loop-q-test.true, c.loop-q.invariant.4, c.requires.4)
 
 size_is : (c : After-row_size-at) → c.row_size-at.result ≡ length (row_bytes (row_in (drop c.loop-q.at c.args.report.now)))
-size_is c = c.row_size-at.ensures ∙ ap (λ (o : Outcome Tag). length (row_bytes o)) (read_is (goal.at.After-row_size-at c).After-unwrap-row ∙ (next (goal.at.After-row_size-at c).In-loop-q).row)
+size_is c = c.row_size-at.ensures ∙ ap (λ (o : Outcome Tag). length (row_bytes o)) (read_is (goal.at.After-row_size-at c).After-reading_of-row ∙ (next (goal.at.After-row_size-at c).In-loop-q).row)
 
 pub overflow_add-at : goal.overflow_add-at
 overflow_add-at c = omega (arith, size_is c, (next (goal.at.overflow_add-at c).In-loop-q).more.within)
 
 -- what is put for row q
-put_is : {A : Type 0} (f : Outcome Tag → List A) (w : ℕ) (c : After-row_size-at) (out out₂ : List A) → out₂ ≡ sets out (w * c.loop-q.q) (f (paper_reading c.unwrap-row.result)) → out₂ ≡ sets out (w * c.loop-q.q) (f (row_at c.args.report.now c.args.count c.loop-q.q))
-put_is f w c out out₂ e = e ∙ ap (λ (o : Outcome Tag). sets out (w * c.loop-q.q) (f o)) (read_is (goal.at.After-row_size-at c).After-unwrap-row)
+put_is : {A : Type 0} (f : Outcome Tag → List A) (w : ℕ) (c : After-row_size-at) (out out₂ : List A) → out₂ ≡ sets out (w * c.loop-q.q) (f (paper_reading c.reading_of-row.result)) → out₂ ≡ sets out (w * c.loop-q.q) (f (row_at c.args.report.now c.args.count c.loop-q.q))
+put_is f w c out out₂ e = e ∙ ap (λ (o : Outcome Tag). sets out (w * c.loop-q.q) (f o)) (read_is (goal.at.After-row_size-at c).After-reading_of-row)
 
 pub loop-q-preserved : goal.loop-q-preserved
 loop-q-preserved c =

@@ -1,10 +1,10 @@
--- The loop keeps: the first y rows are written.
-use Rattle.std.proofs.Common.{◌*◌, ◌<◌}
+-- The loop keeps: the first row and the pairs so far are written.
+use Rattle.std.proofs.Common.{◌+◌, ◌*◌}
 use Rattle.response.specs.Response.{response_at}
 use Rattle.lists.proofs.Rows.{Filled}
 use Rattle.response.proofs.hessian_response.Given as goal
 
-abbrev pub invariant-loop-y : goal.invariant-loop-y
-invariant-loop-y l =
+abbrev pub invariant-loop-pair : goal.invariant-loop-pair
+invariant-loop-pair l =
     let shape = l.img.shape in
-    (0 < l.y) × Filled (response_at l.img.samples.now shape.width shape.height) (shape.width * shape.height) (l.y * shape.width) l.out
+    Filled (response_at l.img.samples.now shape.width shape.height) (shape.width * shape.height) ((2 * l.pair + 1) * shape.width) l.out
